@@ -33,19 +33,21 @@ pub groups-step : (L : Ledger) (e : Event) → may_group e ≡ false → groups_
 groups-step L e plain = by_cause L e (cause L e) refl plain
 
 -- A submission, under a marked group or not, leaves them.
-submitted_if : (b : Bool) (L : Ledger) (request : Request Buffer Parts) (group : Option ℕ) →
-    groups_of (submit_if b L request group).0 ≡ groups_of L
-submitted_if true L request group = refl
-submitted_if false L request group = (groups-submit L request group).0
+submitted_if : (b : Bool) (L : Ledger) (request : Request Buffer Parts) (group : Option ℕ) (linked : Bool) →
+    groups_of (submit_if b L request group linked).0 ≡ groups_of L
+submitted_if true L request group linked = refl
+submitted_if false L request group linked = (groups-submit L request group linked).0
 
 -- So does its event, by its cause.
-submitted_by : (L : Ledger) (request : Request Buffer Parts) (under : Option ℕ) (c : Option Refusal) → cause L (Submit request under) ≡ c →
-    groups_of (step L (Submit request under)).0 ≡ groups_of L
-submitted_by L request under None is =
-    ap (λ s. groups_of s.0) (step-row L (Submit request under) is) ∙ submitted_if (is_under_marked L under) L request (group_under L under)
-submitted_by L request under (Some refusal) is = ap (λ s. groups_of s.0) (step-refused L (Submit request under) refusal is)
+submitted_by : (L : Ledger) (request : Request Buffer Parts) (under : Option ℕ) (linked : Bool) (c : Option Refusal) →
+    cause L (Submit request under linked) ≡ c →
+    groups_of (step L (Submit request under linked)).0 ≡ groups_of L
+submitted_by L request under linked None is =
+    ap (λ s. groups_of s.0) (step-row L (Submit request under linked) is)
+    ∙ submitted_if (is_under_marked L under) L request (group_under L under) linked
+submitted_by L request under linked (Some refusal) is = ap (λ s. groups_of s.0) (step-refused L (Submit request under linked) refusal is)
 
 -- A submission leaves them.
-pub groups-submitted : (L : Ledger) (request : Request Buffer Parts) (under : Option ℕ) →
-    groups_of (step L (Submit request under)).0 ≡ groups_of L
-groups-submitted L request under = submitted_by L request under (cause L (Submit request under)) refl
+pub groups-submitted : (L : Ledger) (request : Request Buffer Parts) (under : Option ℕ) (linked : Bool) →
+    groups_of (step L (Submit request under linked)).0 ≡ groups_of L
+groups-submitted L request under linked = submitted_by L request under linked (cause L (Submit request under linked)) refl

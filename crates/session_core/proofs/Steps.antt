@@ -25,7 +25,7 @@ use Rattle.driver_core.specs.declared.op.Executed.TheVariants.{Op as ExecutedNum
 use Rattle.uring_driver.specs.Executed.{ExecutesFor}
 use Rattle.session_core.specs.Executed.{reply_to, AnswersRefusal}
 use Rattle.ring_core.specs.declared.ledger.Refusal.{Refusal}
-use Rattle.ring_core.specs.declared.ledger.Refusal.TheVariants.{NotFlying, BadOutcome}
+use Rattle.ring_core.specs.declared.ledger.Refusal.TheVariants.{NotFlying, Waiting, BadOutcome}
 use Rattle.ring_core.specs.declared.ledger.Reply.{Reply}
 use Rattle.ring_core.specs.declared.ledger.Reply.TheVariants.{Refused, ExecutedOp, ExecutedClose}
 use Rattle.ring_core.proofs.Amended.{length-amended}
@@ -183,11 +183,12 @@ answers-taken old new L n op event reply stands there tokens groups plain taken 
 }
 
 -- A new operation's token stands at the end.
-pub answers-added : (old new : Session) (L : Ledger) (op : Op) (request : Request Buffer Parts) (under : Option ℕ) (reply : Reply) →
-    SessionStands old L → by_number new.tokens ≡ by_number old.tokens ++ Some op ∷ [] → KeepsGroups old.tokens new.tokens →
-    AddsTo old.driver new.driver op → (due_in old.driver ≡ [] → due_in new.driver ≡ []) → (AreSingle old.driver → AreSingle new.driver) →
-    Answers (λ r. r) built L (Submit request under) reply new.driver → SessionAnswers L (Submit request under) reply new
-answers-added old new L op request under reply stands tokens groups adds due single answers = record {
+pub answers-added : (old new : Session) (L : Ledger) (op : Op) (request : Request Buffer Parts) (under : Option ℕ) (linked : Bool)
+    (reply : Reply) → SessionStands old L → by_number new.tokens ≡ by_number old.tokens ++ Some op ∷ [] →
+    KeepsGroups old.tokens new.tokens → AddsTo old.driver new.driver op → (due_in old.driver ≡ [] → due_in new.driver ≡ []) →
+    (AreSingle old.driver → AreSingle new.driver) →
+    Answers (λ r. r) built L (Submit request under linked) reply new.driver → SessionAnswers L (Submit request under linked) reply new
+answers-added old new L op request under linked reply stands tokens groups adds due single answers = record {
   reply_is = answers.reply_is;
   stands = record {
     driver = answers.stands;
@@ -197,18 +198,20 @@ answers-added old new L op request under reply stands tokens groups adds due sin
         ∙ ap (λ k. k + 1) stands.numbered ∙ sym adds.next;
     tokens = subst (λ items. AreHeld items new.driver) (sym tokens)
         (are_held-added (by_number old.tokens) (ops_in old.driver) (ops_in new.driver) op stands.numbered stands.tokens adds);
-    groups = groups-kept old.tokens new.tokens L (step L (Submit request under)).0 stands.groups groups (groups-submitted L request under);
+    groups = groups-kept old.tokens new.tokens L (step L (Submit request under linked)).0 stands.groups groups
+        (groups-submitted L request under linked);
   };
 }
 
 -- Under a canceled group the driver is the same, and its answer is the session's.
-pub answers-returned : (old new : Session) (L : Ledger) (request : Request Buffer Parts) (under : Option ℕ) (reply : Reply) →
-    SessionStands old L → SameTokens old.tokens new.tokens → new.driver ≡ old.driver →
-    Answers (λ r. r) built L (Submit request under) reply new.driver → SessionAnswers L (Submit request under) reply new
-answers-returned old new L request under reply stands tokens same answers = record {
+pub answers-returned : (old new : Session) (L : Ledger) (request : Request Buffer Parts) (under : Option ℕ) (linked : Bool)
+    (reply : Reply) → SessionStands old L → SameTokens old.tokens new.tokens → new.driver ≡ old.driver →
+    Answers (λ r. r) built L (Submit request under linked) reply new.driver → SessionAnswers L (Submit request under linked) reply new
+answers-returned old new L request under linked reply stands tokens same answers = record {
   reply_is = answers.reply_is;
-  stands = stands-unmoved old new L (step L (Submit request under)).0 stands same tokens.ops
-      (groups-kept old.tokens new.tokens L (step L (Submit request under)).0 stands.groups tokens.groups (groups-submitted L request under))
+  stands = stands-unmoved old new L (step L (Submit request under linked)).0 stands same tokens.ops
+      (groups-kept old.tokens new.tokens L (step L (Submit request under linked)).0 stands.groups tokens.groups
+      (groups-submitted L request under linked))
       answers.stands;
 }
 
@@ -231,7 +234,9 @@ pub steps-unexecuted : (old new : Session) (L : Ledger) (place : ℕ) (told : To
 steps-unexecuted old new L place told ExecRefusal.NotFlying result stands tokens cause_is driver answer =
     subst (λ r. StepsFor L (Exec place told) new r) (sym answer)
     (answers-refused old new L (Exec place told) NotFlying stands cause_is driver tokens)
-steps-unexecuted old new L place told ExecRefusal.Waiting result stands tokens cause_is driver answer = absurd cause_is
+steps-unexecuted old new L place told ExecRefusal.Waiting result stands tokens cause_is driver answer =
+    subst (λ r. StepsFor L (Exec place told) new r) (sym answer)
+    (answers-refused old new L (Exec place told) Waiting stands cause_is driver tokens)
 steps-unexecuted old new L place told ExecRefusal.BadOutcome result stands tokens cause_is driver answer =
     subst (λ r. StepsFor L (Exec place told) new r) (sym answer)
     (answers-refused old new L (Exec place told) BadOutcome stands cause_is driver tokens)
@@ -242,13 +247,13 @@ steps-unexecuted old new L place told ExecRefusal.OutOfMemory (Err refused) stan
 
 -- What a submission of a built request answers is what the session answers.
 pub steps-built : (old new : Session) (L : Ledger) (own : Request Buf Parts) (request : Request Buffer Parts) (group under : Option ℕ)
-    (result : Result Reply NoMemory) →
+    (linked : Bool) (result : Result Reply NoMemory) →
     IfOk result (λ reply. (L : Ledger) (under : Option ℕ) → SessionStands old L → IsUnder L group under →
-    SessionAnswers L (Submit (plain_request built own) under) reply new) →
+    SessionAnswers L (Submit (plain_request built own) under linked) reply new) →
     OnErr result ((L : Ledger) → SessionStands old L → SessionStands new L) →
-    plain_request built own ≡ request → SessionStands old L → IsUnder L group under → cause L (Submit request under) ≡ None →
-    StepsFor L (Submit request under) new result
-steps-built old new L own request group under (Ok reply) ok err plain stands is unrefused =
-    subst (λ r. SessionAnswers L (Submit r under) reply new) plain (ok L under stands is)
-steps-built old new L own request group under (Err error) ok err plain stands is unrefused =
+    plain_request built own ≡ request → SessionStands old L → IsUnder L group under → cause L (Submit request under linked) ≡ None →
+    StepsFor L (Submit request under linked) new result
+steps-built old new L own request group under linked (Ok reply) ok err plain stands is unrefused =
+    subst (λ r. SessionAnswers L (Submit r under linked) reply new) plain (ok L under stands is)
+steps-built old new L own request group under linked (Err error) ok err plain stands is unrefused =
     record { stands = err L stands; unrefused = unrefused }

@@ -22,16 +22,22 @@ use Rattle.session_core.specs.Submission.{IsUnmade}
 use Rattle.session_core.proofs.Refusals.{lacks_handle-holds_all}
 
 -- What a submission is refused with, by three tests in order.
-causes : (L : Ledger) (request : Request Buffer Parts) (under : Option ℕ) (unmade lacks full : Bool) →
-    has_no_canceller L (Submit request under) ≡ unmade → lacks_handle L (named request) ≡ lacks →
+causes : (L : Ledger) (request : Request Buffer Parts) (under : Option ℕ) (linked unmade lacks full : Bool) →
+    has_no_canceller L (Submit request under linked) ≡ unmade → lacks_handle L (named request) ≡ lacks →
     (not (is_under_marked L under) && nat_le MOST_LIVE (length (live_ops L))) ≡ full →
-    cause L (Submit request under) ≡ refused_if unmade NoCanceller (refused_if lacks NoHandle (refused_if full Full None))
-causes L request under unmade lacks full u l f =
+    cause L (Submit request under linked) ≡ refused_if unmade NoCanceller (refused_if lacks NoHandle (refused_if full Full None))
+causes L request under linked unmade lacks full u l f =
     ap (λ b. refused_if b NoCanceller (refused_if (lacks_handle L (named request)) NoHandle
     (refused_if (not (is_under_marked L under) && nat_le MOST_LIVE (length (live_ops L))) Full None))) u
     ∙ ap (λ b. refused_if unmade NoCanceller (refused_if b NoHandle
     (refused_if (not (is_under_marked L under) && nat_le MOST_LIVE (length (live_ops L))) Full None))) l
     ∙ ap (λ b. refused_if unmade NoCanceller (refused_if lacks NoHandle (refused_if b Full None))) f
+
+-- A submission under a handle that was made, or under none, names no handle that wasn't, linked or not.
+made-any : (L : Ledger) (request : Request Buffer Parts) (group under : Option ℕ) (linked : Bool) → IsUnder L group under →
+    has_no_canceller L (Submit request under linked) ≡ false
+made-any L request group None linked is = refl
+made-any L request group (Some handle) linked is = made-under L request group (Some handle) is
 
 -- The user holds each handle that a submission names where the driver says so.
 lacks-none : (session : Session) (L : Ledger) (request : Request Buffer Parts) (held : Bool) → SessionStands session L →
@@ -40,46 +46,50 @@ lacks-none session L request held stands is =
     lacks_handle-holds_all session.driver L stands.driver.handles.holders.users (named request) ∙ ap not is
 
 -- A submission under a cancel handle that was never created is refused.
-pub cause-submit_unmade : (L : Ledger) (request : Request Buffer Parts) (under : Option ℕ) → IsUnmade L under →
-    cause L (Submit request under) ≡ Some NoCanceller
-cause-submit_unmade L request under unmade =
-    causes L request under true (lacks_handle L (named request))
+pub cause-submit_unmade : (L : Ledger) (request : Request Buffer Parts) (under : Option ℕ) (linked : Bool) → IsUnmade L under →
+    cause L (Submit request under linked) ≡ Some NoCanceller
+cause-submit_unmade L request under linked unmade =
+    causes L request under linked true (lacks_handle L (named request))
     (not (is_under_marked L under) && nat_le MOST_LIVE (length (live_ops L)))
-    (ap (λ u. has_no_canceller L (Submit request u)) unmade.under_is ∙ past-test (length L.cancel_handles) unmade.handle unmade.past)
+    (ap (λ u. has_no_canceller L (Submit request u linked)) unmade.under_is ∙ past-test (length L.cancel_handles) unmade.handle unmade.past)
     refl refl
 
 -- One that names a handle which the user doesn't hold is refused.
-pub cause-submit_handle : (session : Session) (L : Ledger) (request : Request Buffer Parts) (group under : Option ℕ) →
+pub cause-submit_handle : (session : Session) (L : Ledger) (request : Request Buffer Parts) (group under : Option ℕ) (linked : Bool) →
     SessionStands session L → IsUnder L group under → holds_all session.driver (named request) ≡ false →
-    cause L (Submit request under) ≡ Some NoHandle
-cause-submit_handle session L request group under stands is absent =
-    causes L request under false true (not (is_under_marked L under) && nat_le MOST_LIVE (length (live_ops L)))
-    (made-under L request group under is) (lacks-none session L request false stands absent) refl
+    cause L (Submit request under linked) ≡ Some NoHandle
+cause-submit_handle session L request group under linked stands is absent =
+    causes L request under linked false true (not (is_under_marked L under) && nat_le MOST_LIVE (length (live_ops L)))
+    (made-any L request group under linked is) (lacks-none session L request false stands absent) refl
 
 -- Where as many operations as there may be are live, another one is refused as Full, unless its group is marked.
-pub cause-submit_full : (session : Session) (L : Ledger) (request : Request Buffer Parts) (group under : Option ℕ) (live : ℕ)
-    (marked : Bool) → SessionStands session L → IsUnder L group under → holds_all session.driver (named request) ≡ true →
+pub cause-submit_full : (session : Session) (L : Ledger) (request : Request Buffer Parts) (group under : Option ℕ)
+    (linked : Bool) (live : ℕ) (marked : Bool) → SessionStands session L → IsUnder L group under →
+    holds_all session.driver (named request) ≡ true →
     live ≡ live_slots session.driver → MOST_LIVE ≤ live → marked ≡ is_under_marked L under → marked ≡ false →
-    cause L (Submit request under) ≡ Some Full
-cause-submit_full session L request group under live marked stands is held count full same unmarked =
-    causes L request under false false true (made-under L request group under is) (lacks-none session L request true stands held)
+    cause L (Submit request under linked) ≡ Some Full
+cause-submit_full session L request group under linked live marked stands is held count full same unmarked =
+    causes L request under linked false false true (made-any L request group under linked is)
+    (lacks-none session L request true stands held)
     (ap (λ b. not b && nat_le MOST_LIVE (length (live_ops L))) (sym same ∙ unmarked)
     ∙ ap (λ k. nat_le MOST_LIVE k) (sym stands.driver.operations.in_slots.counted ∙ sym count) ∙ past-test MOST_LIVE live full)
 
 -- A submission of handles that the user holds isn't refused where its group is marked.
-pub unrefused-marked : (session : Session) (L : Ledger) (request : Request Buffer Parts) (group under : Option ℕ) (marked : Bool) →
+pub unrefused-marked : (session : Session) (L : Ledger) (request : Request Buffer Parts) (group under : Option ℕ) (linked marked : Bool) →
     SessionStands session L → IsUnder L group under → holds_all session.driver (named request) ≡ true →
-    marked ≡ is_under_marked L under → marked ≡ true → cause L (Submit request under) ≡ None
-unrefused-marked session L request group under marked stands is held same marks =
-    causes L request under false false false (made-under L request group under is) (lacks-none session L request true stands held)
+    marked ≡ is_under_marked L under → marked ≡ true → cause L (Submit request under linked) ≡ None
+unrefused-marked session L request group under linked marked stands is held same marks =
+    causes L request under linked false false false (made-any L request group under linked is)
+    (lacks-none session L request true stands held)
     (ap (λ b. not b && nat_le MOST_LIVE (length (live_ops L))) (sym same ∙ marks))
 
 -- Nor is one refused where fewer operations are live.
-pub unrefused-fewer : (session : Session) (L : Ledger) (request : Request Buffer Parts) (group under : Option ℕ) (live : ℕ) →
-    SessionStands session L → IsUnder L group under → holds_all session.driver (named request) ≡ true →
-    live ≡ live_slots session.driver → live < MOST_LIVE → cause L (Submit request under) ≡ None
-unrefused-fewer session L request group under live stands is held count fewer =
-    causes L request under false false false (made-under L request group under is) (lacks-none session L request true stands held)
+pub unrefused-fewer : (session : Session) (L : Ledger) (request : Request Buffer Parts) (group under : Option ℕ) (linked : Bool)
+    (live : ℕ) → SessionStands session L → IsUnder L group under → holds_all session.driver (named request) ≡ true →
+    live ≡ live_slots session.driver → live < MOST_LIVE → cause L (Submit request under linked) ≡ None
+unrefused-fewer session L request group under linked live stands is held count fewer =
+    causes L request under linked false false false (made-any L request group under linked is)
+    (lacks-none session L request true stands held)
     (ap (λ b. not (is_under_marked L under) && b) (ap (λ k. nat_le MOST_LIVE k)
     (sym stands.driver.operations.in_slots.counted ∙ sym count) ∙ below-test MOST_LIVE live fewer)
     ∙ and-false (not (is_under_marked L under)))

@@ -20,7 +20,7 @@ pub data DriverKind : Type 0 where
   completion : DriverKind
   readiness : DriverKind
 
--- The readiness driver takes external events alone: no turns and no executions.
+-- The readiness driver takes external events alone: no turns, no executions and no linked submissions.
 abbrev pub is_external : DriverKind → Bool
 is_external completion = false
 is_external readiness = true

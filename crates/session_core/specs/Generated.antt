@@ -1,5 +1,6 @@
 -- The events that a seed generates. Cited by `generated` and by the top call.
-use Rattle.std.specs.Prelude.{ℕ, ◌+◌, ◌*◌, ◌/◌, ◌%◌, zero, suc, List, [], ◌∷◌, ◌++◌, None, replicate, nat_lt, ◌==◌, if◌then◌else◌}
+use Rattle.std.specs.Prelude.{ℕ, ◌+◌, ◌*◌, ◌/◌, ◌%◌, zero, suc, false, List, [], ◌∷◌, ◌++◌, None, replicate, nat_lt, ◌==◌}
+use Rattle.std.specs.Prelude.{if◌then◌else◌}
 use Rattle.rent_buf.specs.Buffer.{Buffer}
 use Rattle.rent_buf.specs.Parts.{Parts}
 use Rattle.rent_buf.specs.declared.kind.Kind.TheVariants.{Vector}
@@ -36,7 +37,8 @@ told choice count = if nat_lt choice 2 then Fail CANCELED else Count count
 -- The seven events of round i.
 abbrev pub round_events : ℕ → ℕ → ℕ → List Event
 round_events i choice count =
-    Feed 0 (replicate count (i % 256)) ∷ Submit small_read None ∷ asked choice i ∷ Turn ∷ Exec 0 (told choice count) ∷ Turn ∷ Poll i i ∷ []
+    Feed 0 (replicate count (i % 256)) ∷ Submit small_read None false ∷ asked choice i ∷ Turn ∷ Exec 0 (told choice count) ∷ Turn
+    ∷ Poll i i ∷ []
 
 -- The events of so many rounds from round i on, from a state on: a round draws its choice, then its count.
 abbrev pub rounds_from : ℕ → ℕ → ℕ → List Event

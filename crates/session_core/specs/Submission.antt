@@ -20,5 +20,5 @@ FindsFor L under (Err refusal) = (refusal ≡ NoCanceller) × IsUnmade L under
 
 -- The event submits a request.
 abbrev pub IsSubmit : Event → Type 0
-IsSubmit (Submit request under) = Unit {0}
+IsSubmit (Submit request under linked) = Unit {0}
 IsSubmit _ = ⊥

@@ -128,7 +128,7 @@ fn push_round(
     ensures { OnOk result (events.new.items ≡ events.old.items ++ round_events i choice count) }
 {
     events.push(Event::Feed(0, bytes_of_round(alloc, (i % 256) as u8, count as usize)?))?;
-    events.push(Event::Submit(read_of_round(alloc)?, None))?;
+    events.push(Event::Submit(read_of_round(alloc)?, None, false))?;
     events.push(asked_of_round(choice, i))?;
     events.push(Event::Turn)?;
     events.push(Event::Exec(0, told_of_round(choice, count)))?;

@@ -10,7 +10,9 @@ ghost use Rattle.run_laws.specs.Closes.{CreatedOnce, MadeOnce, UsedWhenReturned}
 ghost use Rattle.run_laws.specs.Bytes.{InputInOrder, MessagesInOrder, FilesHoldLast, OutputInOrder, SentInOrder};
 ghost use Rattle.run_laws.specs.Bytes.{MovesOwn, ReadsTakeOwn, ReceivesTakeOwn, SplicesPassOn};
 ghost use Rattle.run_laws.specs.Headline.{OneReplyEach, RefusedExactly, PendingUntilReaped, HandsBackOwn, FirstPollHands, HandedOnce};
-ghost use Rattle.run_laws.specs.Headline.{DroppedOnce, ReapNames, CanceledWhereAsked, GivenInOrder};
+ghost use Rattle.run_laws.specs.Headline.{DroppedOnce, ReapNames, CanceledWhereAsked, BreaksByFailure, GivenInOrder};
+ghost use Rattle.run_laws.specs.Waits.{WaitsOnceTaken, WaitsOnlyTaken, WaitsBehind, StartsFree, StartsAfterLeader};
+ghost use Rattle.run_laws.specs.Waits.{MovesBehindLeader, StartsBehindLeader, BreaksWithLeader, BreaksChain, CompletesInOrder};
 ghost use Rattle.run_laws.specs.Groups.{CancelsMembers, CanceledAtOnceExactly, NoCancellerExactly};
 ghost use Rattle.run_laws.specs.Groups.{CancellersInOrder, HandlesInOrder};
 ghost use Rattle.ring_core.specs.declared.ledger.Event.TheVariants.{Give, Feed, FeedMessage, End, Poll, Drop, Cancel, Turn, Exec};
@@ -99,7 +101,7 @@ impl Session {
             Event::End(h) => Ok(self.end(*h)),
             Event::Look(h) => self.look(*h),
             Event::Close(h) => Ok(self.close(*h)),
-            Event::Submit(request, under) => self.submit_copy(request, *under),
+            Event::Submit(request, under, linked) => self.submit_copy(request, *under, *linked),
             Event::Poll(n, task) => Ok(self.poll(*n, *task)),
             Event::Drop(n) => Ok(self.give_up(*n)),
             Event::Cancel(n) => self.cancel(*n),
@@ -118,7 +120,7 @@ impl Session {
         ensures memory { TakesNoMemory event → IsOk result }
     {
         match &event {
-            Event::Submit(_, _) => self.submit_taken(event),
+            Event::Submit(_, _, _) => self.submit_taken(event),
             _ => self.step(&event),
         }
     }
@@ -129,7 +131,7 @@ impl Session {
         ensures { (L : Ledger) → SessionStands self.old L → StepsFor L event self.new result }
     {
         match event {
-            Event::Submit(request, under) => self.submit(request, under),
+            Event::Submit(request, under, linked) => self.submit(request, under, linked),
             _ => unreachable!(),
         }
     }
@@ -167,6 +169,23 @@ impl Session {
         // asked for, or it was dropped, or a cancel of its group named it, before.
         ensures names { IfOk result (λ run. ReapNames capacity events.now run.0.items) }
         ensures canceled { IfOk result (λ run. CanceledWhereAsked capacity events.now run.0.items) }
+
+        // A request that stands directly behind a linked one in the queue waits for that one once one event has taken both, and nothing
+        // else waits. An operation waits for another only in flight, directly behind it, and isn't executed while it waits.
+        ensures once_taken { IfOk result (λ run. WaitsOnceTaken capacity events.now) }
+        ensures only_taken { IfOk result (λ run. WaitsOnlyTaken capacity events.now) }
+        ensures waits { IfOk result (λ run. WaitsBehind capacity events.now) }
+        ensures starts { IfOk result (λ run. StartsFree capacity events.now) }
+        // One that waited is executed only after the one that it waited for, which didn't fail: what that one moved was moved before.
+        // Where that one succeeds it waits no more.
+        ensures after_leader { IfOk result (λ run. StartsAfterLeader capacity events.now) }
+        ensures moves_behind { IfOk result (λ run. MovesBehindLeader capacity events.now) }
+        ensures behind { IfOk result (λ run. StartsBehindLeader capacity events.now) }
+        // Where one fails, exactly those end by the same event, in order, that wait for it, for one that does, and so on.
+        ensures broken { IfOk result (λ run. BreaksWithLeader capacity events.now) }
+        ensures chain { IfOk result (λ run. BreaksChain capacity events.now) }
+        ensures chain_order { IfOk result (λ run. CompletesInOrder capacity events.now) }
+        ensures breaks { IfOk result (λ run. BreaksByFailure capacity events.now) }
 
         // A turn names the close of a handle once at most: after its user gave the handle up, or the operation that made it was dropped
         // and reaped; and after each operation on it, and the one that made it, was returned, or dropped and reaped. A handle that nobody
@@ -395,13 +414,14 @@ fn executed_reply(executed: Executed) -> Reply
     }
 }
 
-// The answer to an execution that was refused. The session links nothing, so nothing waits in it.
+// The answer to an execution that was refused.
 fn refused_execution(why: ExecRefusal) -> Result<Reply, OutOfMemory>
     ensures { AnswersRefusal why result }
 {
     match why {
         ExecRefusal::NotFlying => Ok(Reply::Refused(Refusal::NotFlying)),
-        ExecRefusal::Waiting | ExecRefusal::BadOutcome => Ok(Reply::Refused(Refusal::BadOutcome)),
+        ExecRefusal::Waiting => Ok(Reply::Refused(Refusal::Waiting)),
+        ExecRefusal::BadOutcome => Ok(Reply::Refused(Refusal::BadOutcome)),
         ExecRefusal::OutOfMemory => Err(OutOfMemory),
     }
 }

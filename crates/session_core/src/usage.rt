@@ -31,8 +31,8 @@ run CAP              reads events from standard input, one a line, runs them
                      and writes the reply to each, one a line; with -i each
                      reply is written before the next line is read
 ready                does so on the readiness driver, which makes the call of an
-                     operation when it is polled: turn and exec lines are
-                     invalid here
+                     operation when it is polled: turn, exec, link and linkunder
+                     lines are invalid here
 gen SEED COUNT       runs COUNT rounds of seven events (0 to 100000) that SEED
                      generates (0 to 2147483647) over a queue of 8 entries, and
                      writes how many events there were, how many were refused,

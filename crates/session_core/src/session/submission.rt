@@ -1,11 +1,13 @@
 //! The submission of a request, under a cancel handle or none.
-ghost use Rattle.std.specs.Prelude.{ℕ, Option, ◌≡◌, ◌<◌, IfSome, IfNone, IfOk, OnErr, IsTrue};
+ghost use Rattle.std.specs.Prelude.{ℕ, Bool, true, Option, ◌≡◌, ◌<◌, [], IfSome, IfNone, IfOk, IfErr, OnErr, IsTrue};
 ghost use Rattle.rent_buf.specs.Buf.{built};
 ghost use Rattle.ring_core.specs.Request.{named, plain_request};
 ghost use Rattle.ring_core.specs.Ledger.{Ledger, is_under_marked};
 ghost use Rattle.ring_core.specs.Refusal.{cause};
 ghost use Rattle.ring_core.specs.declared.ledger.Event.TheVariants.{Submit};
-ghost use Rattle.uring_driver.specs.Uring.{holds_all, given_by, group_count};
+ghost use Rattle.uring_driver.specs.Uring.{holds_all, given_by, group_count, due_in};
+ghost use Rattle.uring_driver.specs.Stands.{Stands};
+ghost use Rattle.uring_driver.specs.Submitted.{AddsToken, JoinsFor, SubmitRefused, SubmitsFor};
 ghost use Rattle.session_core.specs.Session.{SessionStands, SessionAnswers, StepsFor};
 ghost use Rattle.driver_core.specs.Answers.{IsUnder};
 ghost use Rattle.driver_core.specs.Tokens.{HasRoom};
@@ -14,34 +16,36 @@ ghost use Rattle.session_core.specs.Submission.{FindsFor};
 use super::{Session, plain_held};
 use op_slots::slab::MAX_LIVE;
 use rent_buf::{Buf, BufSpec, OutOfMemory, PartsSpec, VecBuf};
-use ring_core::{Refusal, Reply, Request};
-use uring_driver::{CancelHandle, MOST_GIVEN, Submitted};
+use ring_core::{MemRing, Refusal, Reply, Request};
+use uring_driver::{CancelHandle, IoUringDriver, MOST_GIVEN, SubmitError, Submitted};
 
 impl Session {
-    // A copy of a request is submitted.
+    // A copy of a request is submitted, linked or not.
     pub(super) fn submit_copy(
         &mut self,
         request: &Request<BufSpec, PartsSpec>,
         under: Option<u64>,
+        linked: bool,
     ) -> Result<Reply, OutOfMemory>
-        ensures { (L : Ledger) → SessionStands self.old L → StepsFor L (Submit request.now under) self.new result }
+        ensures { (L : Ledger) → SessionStands self.old L → StepsFor L (Submit request.now under linked) self.new result }
     {
         match self.handle_under(under) {
-            Ok(group) => self.submit_copy_to(request, group),
+            Ok(group) => self.submit_copy_to(request, group, linked),
             Err(refusal) => Ok(Reply::Refused(refusal)),
         }
     }
 
-    // A request is submitted; what it holds is moved into its buffer, or its parts.
+    // A request is submitted, linked or not; what it holds is moved into its buffer, or its parts.
     pub(super) fn submit(
         &mut self,
         request: Request<BufSpec, PartsSpec>,
         under: Option<u64>,
+        linked: bool,
     ) -> Result<Reply, OutOfMemory>
-        ensures { (L : Ledger) → SessionStands self.old L → StepsFor L (Submit request under) self.new result }
+        ensures { (L : Ledger) → SessionStands self.old L → StepsFor L (Submit request under linked) self.new result }
     {
         match self.handle_under(under) {
-            Ok(group) => self.submit_to(request, group),
+            Ok(group) => self.submit_to(request, group, linked),
             Err(refusal) => Ok(Reply::Refused(refusal)),
         }
     }
@@ -51,15 +55,16 @@ impl Session {
         &mut self,
         request: &Request<BufSpec, PartsSpec>,
         group: Option<CancelHandle>,
+        linked: bool,
     ) -> Result<Reply, OutOfMemory>
         requires made { IfSome group (λ g. g < group_count self.old.driver) }
         ensures { (L : Ledger) (under : Option ℕ) → SessionStands self.old L → IsUnder L group under →
-            StepsFor L (Submit request.now under) self.new result }
+            StepsFor L (Submit request.now under linked) self.new result }
     {
         match self.refusal_of(request, &group) {
             Some(refusal) => Ok(Reply::Refused(refusal)),
             None => match request.try_clone() {
-                Ok(request) => self.submit_to(request, group),
+                Ok(request) => self.submit_to(request, group, linked),
                 Err(_) => Err(OutOfMemory),
             },
         }
@@ -70,10 +75,11 @@ impl Session {
         &mut self,
         request: Request<BufSpec, PartsSpec>,
         group: Option<CancelHandle>,
+        linked: bool,
     ) -> Result<Reply, OutOfMemory>
         requires made { IfSome group (λ g. g < group_count self.old.driver) }
         ensures { (L : Ledger) (under : Option ℕ) → SessionStands self.old L → IsUnder L group under →
-            StepsFor L (Submit request under) self.new result }
+            StepsFor L (Submit request under linked) self.new result }
     {
         match self.refusal_of(&request, &group) {
             Some(refusal) => return Ok(Reply::Refused(refusal)),
@@ -87,7 +93,7 @@ impl Session {
             return Err(OutOfMemory);
         }
         match build_request(request) {
-            Ok(request) => self.submit_built(request, group),
+            Ok(request) => self.submit_built(request, group, linked),
             Err(_) => Err(OutOfMemory),
         }
     }
@@ -130,8 +136,8 @@ impl Session {
         group: &Option<CancelHandle>,
     ) -> Option<Refusal>
         requires made { IfSome group.now (λ g. g < group_count self.now.driver) }
-        ensures named { (L : Ledger) (under : Option ℕ) → SessionStands self.now L → IsUnder L group.now under →
-            cause L (Submit request.now under) ≡ result }
+        ensures named { (L : Ledger) (under : Option ℕ) (linked : Bool) → SessionStands self.now L → IsUnder L group.now under →
+            cause L (Submit request.now under linked) ≡ result }
         ensures held { IfNone result (IsTrue (holds_all self.now.driver (named request.now))) }
     {
         if !self.holds_named(request) {
@@ -151,21 +157,23 @@ impl Session {
         self.driver.holds_names(request.names())
     }
 
-    // A request of handles that the user holds is submitted, under a group that was made or none. The token of a new operation is kept.
+    // A request of handles that the user holds is submitted, linked or not, under a group that was made or none. The token of a new
+    // operation is kept.
     fn submit_built(
         &mut self,
         request: Request<Buf, VecBuf>,
         group: Option<CancelHandle>,
+        linked: bool,
     ) -> Result<Reply, OutOfMemory>
         requires held { IsTrue (holds_all self.old.driver (named request)) }
         requires made { IfSome group (λ g. g < group_count self.old.driver) }
         requires counter { given_by self.old.driver < MOST_GIVEN }
         requires room { HasRoom self.old.tokens }
         ensures ok { IfOk result (λ reply. (L : Ledger) (under : Option ℕ) → SessionStands self.old L → IsUnder L group under →
-            SessionAnswers L (Submit (plain_request built request) under) reply self.new) }
+            SessionAnswers L (Submit (plain_request built request) under linked) reply self.new) }
         ensures err { OnErr result ((L : Ledger) → SessionStands self.old L → SessionStands self.new L) }
     {
-        match self.driver.submit_with(request, group) {
+        match submit_to_driver(&mut self.driver, request, group, linked) {
             Ok(Submitted::Op(op)) => {
                 let n = op.number();
                 self.tokens.add(op);
@@ -174,6 +182,30 @@ impl Session {
             Ok(Submitted::Canceled(request)) => Ok(Reply::CanceledAtOnce(plain_held(request))),
             Err(_) => Err(OutOfMemory),
         }
+    }
+}
+
+// A request of handles that the user holds is submitted to a driver, linked or not, under a group that was made or none.
+fn submit_to_driver(
+    driver: &mut IoUringDriver<MemRing, Buf>,
+    request: Request<Buf, VecBuf>,
+    group: Option<CancelHandle>,
+    linked: bool,
+) -> Result<Submitted<Buf>, SubmitError<Buf>>
+    requires held { IsTrue (holds_all driver.old (named request)) }
+    requires made { IfSome group (λ g. g < group_count driver.old) }
+    requires counter { given_by driver.old < MOST_GIVEN }
+    ensures answers { IfOk result (λ submitted. (L : Ledger) (under : Option ℕ) → Stands (λ r. r) built driver.old L →
+        IsUnder L group under → SubmitsFor (λ r. r) built linked L request under driver.new submitted) }
+    ensures token { IfOk result (λ submitted. AddsToken driver.old driver.new submitted) }
+    ensures joins { IfOk result (λ submitted. JoinsFor driver.old driver.new request group submitted) }
+    ensures none_due { due_in driver.old ≡ [] → due_in driver.new ≡ [] }
+    ensures err { IfErr result (SubmitRefused (λ r. r) built true request driver.old driver.new) }
+{
+    if linked {
+        driver.submit_linked(request, group)
+    } else {
+        driver.submit_with(request, group)
     }
 }
 

@@ -105,11 +105,12 @@ fn each_status_has_its_number_and_line(rt: HostRuntime) -> Result<(), Fail> {
 
 // Words, an input in which `;` stands for a newline, and the line that standard error gets.
 #[rattlefmt::skip]
-const TOLD: [(&str, &str, &str); 9] = [
+const TOLD: [(&str, &str, &str); 10] = [
     ("run 8", "give stream;turn;exec 0 no 1;turn;", "session_run: line 3, word 3: expected 'ok' or 'err'"),
     ("run 8", "feed 0 6;", "session_run: line 1, word 3: expected bytes: pairs of the digits 0-9a-f, or '-' for none, but it has an odd number of digits"),
     ("run 8", "cancel 0;canceller 0", "session_run: line 2, word 2: expected the end of the line"),
-    ("ready", "give stream;turn;", "session_run: line 2, word 1: expected an event other than turn and exec, which 'ready' doesn't take"),
+    ("ready", "give stream;turn;", "session_run: line 2, word 1: expected an event other than turn, exec, link and linkunder, which 'ready' doesn't take"),
+    ("ready", "give stream;link recv 0 v 1 0 1 -;", "session_run: line 2, word 1: expected an event other than turn, exec, link and linkunder, which 'ready' doesn't take"),
     ("ready", "give stream;end;", "session_run: line 2, word 2: expected the number of a handle (0 to 18446744073709551615), but the line ends before it"),
     ("run 8", "give stream;submit recv 0 v 18446744073709551615 0 0 -;", "session_run: line 2: out of memory"),
     ("ready", "give stream;look 0;submit recv 0 v 18446744073709551615 0 0 -;", "session_run: line 3: out of memory"),
@@ -206,8 +207,8 @@ const LINES: [&str; 60] = [
     "                     and writes the reply to each, one a line; with -i each",
     "                     reply is written before the next line is read",
     "ready                does so on the readiness driver, which makes the call of an",
-    "                     operation when it is polled: turn and exec lines are",
-    "                     invalid here",
+    "                     operation when it is polled: turn, exec, link and linkunder",
+    "                     lines are invalid here",
     "gen SEED COUNT       runs COUNT rounds of seven events (0 to 100000) that SEED",
     "                     generates (0 to 2147483647) over a queue of 8 entries, and",
     "                     writes how many events there were, how many were refused,",

@@ -6,7 +6,9 @@ use Rattle.run_laws.specs.Closes.{ClosedOnce, ClosedWhenReleased, ClosedWhenOver
 use Rattle.run_laws.specs.Closes.{CreatedOnce, UsedWhenReturned}
 use Rattle.run_laws.specs.Groups.{CancelsMembers, CanceledAtOnceExactly, NoCancellerExactly, CancellersInOrder, HandlesInOrder}
 use Rattle.run_laws.proofs.Laws.{refused-exactly, pending-until-reaped, hands-back-own, first-poll-hands, handed-once, dropped-once}
-use Rattle.run_laws.proofs.Laws.{reap-names, canceled-where-asked, given-in-order}
+use Rattle.run_laws.proofs.Laws.{reap-names, canceled-where-asked, breaks-by-failure, given-in-order}
+use Rattle.run_laws.proofs.Laws.{waits-once-taken, waits-only-taken, waits-behind, starts-free, starts-after-leader, moves-behind-leader}
+use Rattle.run_laws.proofs.Laws.{starts-behind-leader, breaks-with-leader, breaks-chain, completes-in-order}
 use Rattle.run_laws.proofs.Laws.{closed-once, closed-when-released, closed-when-over, closed-when-maker-over, unheld-closes}
 use Rattle.run_laws.proofs.Laws.{created-once, made-once, used-when-returned}
 use Rattle.run_laws.proofs.Laws.{input-in-order, messages-in-order, files-hold-last, output-in-order, sent-in-order}
@@ -84,6 +86,39 @@ returns-clause-canceled c =
     holds-of_all c.args.capacity c.args.events.now c.loop-event.event-index _ _
     (λ rs. CanceledWhereAsked c.args.capacity c.args.events.now rs)
     (omega arith) c.loop-event.invariant.all (canceled-where-asked c.args.capacity c.args.events.now)
+
+pub returns-clause-once_taken : goal.returns-clause-once_taken
+returns-clause-once_taken c = waits-once-taken c.args.capacity c.args.events.now
+
+pub returns-clause-only_taken : goal.returns-clause-only_taken
+returns-clause-only_taken c = waits-only-taken c.args.capacity c.args.events.now
+
+pub returns-clause-after_leader : goal.returns-clause-after_leader
+returns-clause-after_leader c = starts-after-leader c.args.capacity c.args.events.now
+
+pub returns-clause-moves_behind : goal.returns-clause-moves_behind
+returns-clause-moves_behind c = moves-behind-leader c.args.capacity c.args.events.now
+
+pub returns-clause-chain : goal.returns-clause-chain
+returns-clause-chain c = breaks-chain c.args.capacity c.args.events.now
+
+pub returns-clause-chain_order : goal.returns-clause-chain_order
+returns-clause-chain_order c = completes-in-order c.args.capacity c.args.events.now
+
+pub returns-clause-waits : goal.returns-clause-waits
+returns-clause-waits c = waits-behind c.args.capacity c.args.events.now
+
+pub returns-clause-starts : goal.returns-clause-starts
+returns-clause-starts c = starts-free c.args.capacity c.args.events.now
+
+pub returns-clause-behind : goal.returns-clause-behind
+returns-clause-behind c = starts-behind-leader c.args.capacity c.args.events.now
+
+pub returns-clause-broken : goal.returns-clause-broken
+returns-clause-broken c = breaks-with-leader c.args.capacity c.args.events.now
+
+pub returns-clause-breaks : goal.returns-clause-breaks
+returns-clause-breaks c = breaks-by-failure c.args.capacity c.args.events.now
 
 pub returns-clause-closed_once : goal.returns-clause-closed_once
 returns-clause-closed_once c =

@@ -10,5 +10,5 @@ returns-in-Ok c = λ L stands. c.submit_to.ensures L c.args.under stands (c.in-O
 pub returns-in-Err : goal.returns-in-Err
 returns-in-Err c = λ L stands.
     let finds = c.in-Err.ensures.finds L stands in
-    answers-refused c.args.self.now _ L _ _ stands (cause-submit_unmade L c.args.request c.args.under finds.1 ∙ ap Some (sym finds.0)) refl
-    (tokens-same _)
+    answers-refused c.args.self.now _ L _ _ stands
+    (cause-submit_unmade L c.args.request c.args.under c.args.linked finds.1 ∙ ap Some (sym finds.0)) refl (tokens-same _)

@@ -11,4 +11,4 @@ pub returns-in-Err : goal.returns-in-Err
 returns-in-Err c = λ L stands.
     let finds = c.in-Err.ensures.finds L stands in
     answers-refused c.args.self.now _ L _ _ stands
-    (cause-submit_unmade L c.args.request.now c.args.under finds.1 ∙ ap Some (sym finds.0)) refl (tokens-same _)
+    (cause-submit_unmade L c.args.request.now c.args.under c.args.linked finds.1 ∙ ap Some (sym finds.0)) refl (tokens-same _)
