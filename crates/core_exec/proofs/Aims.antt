@@ -18,7 +18,7 @@ none_gone : {X A : Type 0} (x : Option X) → x ≡ None → IsSome x → A
 none_gone x e there = not_both (subst (λ z. IsSome z) e there)
 
 -- A value is one.
-some_is : {X : Type 0} (d x y : X) → ◌≡◌ {A = Option X} (Some x) (Some y) → x ≡ y
+pub some_is : {X : Type 0} (d x y : X) → ◌≡◌ {A = Option X} (Some x) (Some y) → x ≡ y
 some_is {X} d x y e = ap (λ (o : Option X). elim o as (λ _. X) [ None ↦ d | Some z ↦ z ]) e
 
 module _ {J : Type 0} where

@@ -1,16 +1,23 @@
--- How many tasks have no mark, where one entry of a tree changes.
-use Rattle.std.proofs.Common.{ℕ, ◌≡◌, ◌+◌, ◌∙◌, ap, sym, subst, Bool, true, false, cond, List, [], ◌∷◌, Some, None, arith}
-use Rattle.std.specs.Prelude.{Option, length, ◌≤◌}
-use Rattle.std.specs.declared.cmp.Ordering.TheVariants.{Less, Equal, Greater}
-use Rattle.std.specs.Ordering.{nat_cmp, match_ordering, is_eq}
+-- How many tasks have no mark, where one entry of a map changes.
+use Rattle.std.proofs.Common.{ℕ, ◌≡◌, ◌+◌, ◌∙◌, ap, sym, refl, subst, Bool, true, false, cond, List, [], ◌∷◌, Some, None, arith}
+use Rattle.std.specs.Prelude.{Option, length, ◌≤◌, nat_eq}
 use Rattle.std.specs.Map.{lookup, set_value, remove_entry}
-use Rattle.std.specs.BTreeMap.{BTreeMap, is_at, insert_entry, get_by, WritesThrough}
+use Rattle.std.specs.List.{sum_by}
+use Rattle.std.specs.List.Sorted.{IsPermutation}
+use Rattle.std.specs.HashMap.{HashMap, get_by, WritesThrough}
+use Rattle.std.proofs.lemmas.List.Sorted.{sum_by-IsPermutation}
+use Rattle.std.proofs.lemmas.List.Sums.{sum_by-cons}
 use Rattle.core_exec.specs.declared.table.Task.{Task}
 use Rattle.core_exec.specs.Tasks.{cost, unmarked}
 
 -- None is no value.
 pub not_some : {X : Type 0} {x : X} → ◌≡◌ {A = Option X} None (Some x) → ⊥
 not_some {X} e = subst (λ (o : Option X). elim o as (λ _. Type 0) [ None ↦ Unit {0} | Some y ↦ ⊥ ]) e tt
+
+-- They are counted one by one.
+unmarked_sum : {J : Type 0} (es : List (ℕ × Task J)) → unmarked es ≡ sum_by (λ e. cost (Some e.1)) es
+unmarked_sum [] = refl
+unmarked_sum (e ∷ es) = ap (λ n. cost (Some e.1) + n) (unmarked_sum es) ∙ sym (sum_by-cons (λ e. cost (Some e.1)) e es)
 
 -- A task is written over another.
 pub unmarked-set_value : {J : Type 0} (test : ℕ → Bool) (es : List (ℕ × Task J)) (old new : Task J) → lookup test es ≡ Some old
@@ -34,18 +41,10 @@ unmarked-remove_entry test (e ∷ es) old found = elim (test e.0)
       | false ↦ λ there. let rest = unmarked-remove_entry test es old there in omega (arith, rest)
     ] found
 
--- A task is added at a number that no task has.
-pub unmarked-insert_entry : {J : Type 0} (es : List (ℕ × Task J)) (k : ℕ) (new : Task J) → lookup (is_at (nat_cmp k)) es ≡ None
-    → unmarked (insert_entry nat_cmp es k new) ≡ unmarked es + cost (Some new)
-unmarked-insert_entry [] k new none = omega arith
-unmarked-insert_entry (e ∷ es) k new none = elim (nat_cmp k e.0)
-    as (λ o. cond (is_eq o) (Some e.1) (lookup (is_at (nat_cmp k)) es) ≡ None
-    → unmarked (match_ordering o ((k, new) ∷ e ∷ es) ((e.0, new) ∷ es) (e ∷ insert_entry nat_cmp es k new)) ≡ unmarked (e ∷ es) + cost
-    (Some new)) [
-      | Less ↦ λ absent. omega arith
-      | Equal ↦ λ absent. absurd (not_some (sym absent))
-      | Greater ↦ λ absent. let rest = unmarked-insert_entry es k new absent in omega (arith, rest)
-    ] none
+-- In another order as many have no mark.
+pub unmarked_permuted : {J : Type 0} (es fs : List (ℕ × Task J)) → IsPermutation es fs → unmarked fs ≡ unmarked es
+unmarked_permuted es fs moved =
+    unmarked_sum fs ∙ sum_by-IsPermutation (λ e. cost (Some e.1)) es fs moved ∙ sym (unmarked_sum es)
 
 -- No more tasks have no mark than there are.
 pub unmarked_within : {J : Type 0} (es : List (ℕ × Task J)) → unmarked es ≤ length es
@@ -53,8 +52,19 @@ unmarked_within [] = omega arith
 unmarked_within (e ∷ es) = let rest = unmarked_within es in let one : cost (Some e.1) ≤ 1 = elim (e.1.marked) as (λ b. cond b 0 1 ≤ 1)
     [ true ↦ omega arith | false ↦ omega arith ] in omega (arith, rest, one)
 
--- A task of a tree is written over another.
-pub unmarked_written : {J : Type 0} (old new : BTreeMap ℕ (Task J)) (t : ℕ) (was now : Task J) → get_by (nat_cmp t) old ≡ Some was
-    → WritesThrough nat_cmp (nat_cmp t) old now new → unmarked new.entries + cost (Some was) ≡ unmarked old.entries + cost (Some now)
+-- A task of a map is written over another.
+pub unmarked_written : {J S : Type 0} (old new : HashMap ℕ (Task J) S) (t : ℕ) (was now : Task J) → get_by (nat_eq t) old ≡ Some was
+    → WritesThrough nat_eq (nat_eq t) old now new → unmarked new.entries + cost (Some was) ≡ unmarked old.entries + cost (Some now)
 unmarked_written old new t was now found writes =
-    ap (λ es. unmarked es + cost (Some was)) writes.0 ∙ unmarked-set_value (is_at (nat_cmp t)) old.entries was now found
+    ap (λ es. unmarked es + cost (Some was)) writes.0 ∙ unmarked-set_value (nat_eq t) old.entries was now found
+
+-- A task of a map is taken out.
+pub unmarked_removed : {J S : Type 0} (old new : HashMap ℕ (Task J) S) (t : ℕ) (was : Task J) → get_by (nat_eq t) old ≡ Some was
+    → IsPermutation (remove_entry (nat_eq t) old.entries) new.entries → unmarked new.entries + cost (Some was) ≡ unmarked old.entries
+unmarked_removed old new t was found moved =
+    ap (λ n. n + cost (Some was)) (unmarked_permuted _ new.entries moved) ∙ unmarked-remove_entry (nat_eq t) old.entries was found
+
+-- A task is added to a map.
+pub unmarked_added : {J S : Type 0} (old new : HashMap ℕ (Task J) S) (t : ℕ) (now : Task J) → IsPermutation ((t, now) ∷ old.entries) new.entries
+    → unmarked new.entries ≡ unmarked old.entries + cost (Some now)
+unmarked_added old new t now moved = let same = unmarked_permuted ((t, now) ∷ old.entries) new.entries moved in omega (arith, same)

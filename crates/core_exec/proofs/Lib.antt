@@ -3,9 +3,11 @@ pub mod Counted
 pub mod Late
 pub mod Looping
 pub mod Marking
+pub mod Numbering
 pub mod Pairs
 pub mod Placing
 pub mod Reaching
 pub mod Stepping
 pub mod Turning
 pub mod Visiting
+pub mod Waiting

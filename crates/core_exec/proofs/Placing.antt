@@ -23,7 +23,7 @@ outputs_push : {O : Type 0} (outputs : List (ℕ × O)) (t s : ℕ) (out : O)
 outputs_push outputs t s out = sum_by_push (λ o. cond (o.0 == s) 1 0) outputs (t, out)
 
 -- A task that has its job is there.
-there_job : {J : Type 0} (x : Option (Task J)) → IsSome (job_in x) → is_some x ≡ true
+pub there_job : {J : Type 0} (x : Option (Task J)) → IsSome (job_in x) → is_some x ≡ true
 there_job None there = not_both there
 there_job (Some task) there = refl
 

@@ -38,6 +38,13 @@ IfKept (Pending next) P = P next
 IfKept (Short next) P = P next
 IfKept (Refused next) P = P next
 
+-- A fact of the job that is pending, if it is.
+abbrev pub IfPends : {J O : Type 0} → Answer J O → (J → Type 0) → Type 0
+IfPends (Done out) P = Unit {0}
+IfPends (Pending next) P = P next
+IfPends (Short next) P = Unit {0}
+IfPends (Refused next) P = Unit {0}
+
 -- How the task's part ended.
 abbrev pub visit_of : {J O : Type 0} → Answer J O → Visit
 visit_of (Done out) = visit.Done

@@ -2,12 +2,13 @@
 use Rattle.std.specs.Prelude.{ℕ, ◌≡◌, ◌≢◌, ◌≤◌, ◌<◌, ◌+◌, true, false, List, length, Option, Some, None, IsSome}
 use Rattle.std.specs.List.{All}
 use Rattle.std.specs.Vec.{vec_len, vec_capacity}
-use Rattle.std.specs.BTreeMap.{btree_map_len}
+use Rattle.std.specs.HashMap.{hash_map_len}
 use Rattle.core_exec.specs.declared.table.Task.{Task}
 use Rattle.core_exec.specs.declared.exec.Exec.{Exec}
 use Rattle.core_exec.specs.declared.turn.Ran.{Ran}
-use Rattle.core_exec.specs.Tasks.{AreSound, HaveJobs, task_at, job_at, job_in, aim_in}
+use Rattle.core_exec.specs.Tasks.{AreSound, AreWaiting, HaveJobs, task_at, job_at, job_in, aim_in}
 use Rattle.core_exec.specs.Marks.{AreListed, HasDeadlines, ready_tasks}
+use Rattle.core_exec.specs.Numbers.{AreNumbers}
 use Rattle.core_exec.specs.Places.{ArePlaced, StayPlaced}
 use Rattle.core_exec.specs.Turns.{AddsOutputs, AreCounted, Turns}
 
@@ -19,7 +20,7 @@ abbrev pub jobs_of : {D J O : Type 0} → Exec D J O → ℕ → Option J
 jobs_of exec = job_at exec.ready.table
 
 abbrev pub left_of : {D J O : Type 0} → Exec D J O → ℕ
-left_of exec = btree_map_len exec.ready.table.tree
+left_of exec = hash_map_len exec.ready.table.map
 
 -- The outputs that weren't taken, each with its task.
 abbrev pub outputs_of : {D J O : Type 0} → Exec D J O → List (ℕ × O)
@@ -46,6 +47,10 @@ pub record KeepsDriver {D J O : Type 0} (old new : Exec D J O) : Type 0 where
 abbrev pub IsSound : {D J O : Type 0} → (D → ℕ → J → Type 0) → (J → J → Type 0) → Exec D J O → Type 0
 IsSound fits apart exec = AreSound fits apart exec.driver (jobs_of exec)
 
+-- Each unfinished task is marked, or waits in the driver.
+abbrev pub NoneForgotten : {D J O : Type 0} → (D → ℕ → J → Type 0) → Exec D J O → Type 0
+NoneForgotten waits exec = AreWaiting waits exec.driver (tasks_of exec)
+
 -- The tasks of a turn, of which the ready ones are marked.
 abbrev pub ready_of : {D J O : Type 0} → ℕ → List ℕ → Exec D J O → ℕ → Option (Task J)
 ready_of now named exec = ready_tasks now named (tasks_of exec)
@@ -65,16 +70,17 @@ abbrev pub KeepsPlaces : {D J O : Type 0} → Exec D J O → Exec D J O → Type
 KeepsPlaces old new = StayPlaced (tasks_of old) (outputs_of old) (tasks_of new) (outputs_of new)
     × (length (outputs_of new) + left_of new ≡ length (outputs_of old) + left_of old)
 
--- What each call keeps: the marked tasks are found, and the deadlines that are to come; each task has its job, which was polled in a turn
+-- What each call keeps: the marked tasks are found, the deadlines that are to come, and all tasks in order; each task has its job, which was polled in a turn
 -- each at most, and its cancel was asked for once where the task was canceled, and else never; its number was given; its output has room;
 -- and it is unfinished, or has one output that wasn't taken, or none.
 pub record Stands {D J O : Type 0} (polls cancels : J → ℕ) (exec : Exec D J O) : Type 0 where
   pub listed : AreListed exec.ready
   pub deadlines : HasDeadlines exec.ready
+  pub known : AreNumbers (task_at exec.ready.table) exec.ready.numbers
   pub jobs : HaveJobs (task_at exec.ready.table)
   pub counted : AreCounted polls cancels exec.turns (task_at exec.ready.table)
   pub numbers : (t : ℕ) → IsSome (task_at exec.ready.table t) → t < exec.spawned
-  pub room : vec_len exec.outputs + btree_map_len exec.ready.table.tree ≤ vec_capacity exec.outputs
+  pub room : vec_len exec.outputs + hash_map_len exec.ready.table.map ≤ vec_capacity exec.outputs
   pub placed : ArePlaced exec.spawned (task_at exec.ready.table) exec.outputs.items
 
 -- Each unfinished job has the aim of its number, and each output meets that of its task.

@@ -9,6 +9,12 @@ IfBack (Done out) P = Unit {0}
 IfBack (Pending job) P = P job
 IfBack (OutOfMemory job) P = P job
 
+-- A fact of the job that a poll left pending, if it did.
+abbrev pub IfPending : {J O : Type 0} → JobStep J O → (J → Type 0) → Type 0
+IfPending (Done out) P = Unit {0}
+IfPending (Pending job) P = P job
+IfPending (OutOfMemory job) P = Unit {0}
+
 -- A poll counts as one, and leaves the cancels and the aim; an output meets it.
 pub record IsNext {J : Type 0} (polls cancels : J → ℕ) (aim : J → List ℕ) (job next : J) : Type 0 where
   pub polled : polls next ≡ suc (polls job)

@@ -3,6 +3,7 @@ pub mod Deadlines
 pub mod Exec
 pub mod Job
 pub mod Marks
+pub mod Numbers
 pub mod Places
 pub mod Polls
 pub mod Steps

@@ -1,7 +1,6 @@
 -- The unfinished tasks of an executor, by number. Cited by `Table`.
-use Rattle.std.specs.Prelude.{ℕ, ◌≡◌, ◌≢◌, ◌+◌, Bool, true, false, not, cond, List, [], ◌∷◌, Option, Some, None, IsSome}
-use Rattle.std.specs.Ordering.{nat_cmp}
-use Rattle.std.specs.BTreeMap as tree
+use Rattle.std.specs.Prelude.{ℕ, nat_eq, ◌≡◌, ◌≢◌, ◌+◌, Bool, true, false, not, cond, List, [], ◌∷◌, Option, Some, None, IsSome}
+use Rattle.std.specs.HashMap as map
 use Rattle.core_exec.specs.declared.table.Task.{Task}
 use Rattle.core_exec.specs.declared.table.Flags.{Flags}
 use Rattle.core_exec.specs.declared.table.Table.{Table}
@@ -9,7 +8,7 @@ use Rattle.core_exec.specs.declared.table.Taken.{Taken}
 
 -- The unfinished task of a number.
 abbrev pub task_at : {J : Type 0} → Table J → ℕ → Option (Task J)
-task_at table t = tree.get nat_cmp table.tree t
+task_at table t = map.get nat_eq table.map t
 
 -- The job of a task that was looked up.
 abbrev pub job_in : {J : Type 0} → Option (Task J) → Option J
@@ -46,6 +45,10 @@ pub record AreSound {D J : Type 0} (fits : D → ℕ → J → Type 0) (apart : 
   pub all_fit : (t : ℕ) (job : J) → jobs t ≡ Some job → fits driver t job
   pub all_apart : (s t : ℕ) (one other : J) → s ≢ t → jobs s ≡ Some one → jobs t ≡ Some other → apart one other
 
+-- Each task without a mark waits in the driver, which names it when it can go on: so none is forgotten.
+abbrev pub AreWaiting : {D J : Type 0} → (D → ℕ → J → Type 0) → D → (ℕ → Option (Task J)) → Type 0
+AreWaiting {J = J} waits driver tasks = (t : ℕ) (job : J) → mark_of (tasks t) ≡ false → job_in (tasks t) ≡ Some job → waits driver t job
+
 -- A job fits the driver as the task of a number, and has no operation with one of some jobs.
 pub record IsApart {D J : Type 0} (fits : D → ℕ → J → Type 0) (apart : J → J → Type 0) (driver : D) (jobs : ℕ → Option J)
     (t : ℕ) (job : J) : Type 0 where
@@ -73,7 +76,7 @@ unmarked (e ∷ es) = cost (Some e.1) + unmarked es
 
 -- How many unfinished tasks have no mark.
 abbrev pub unmarked_in : {J : Type 0} → Table J → ℕ
-unmarked_in table = unmarked table.tree.entries
+unmarked_in table = unmarked table.map.entries
 
 -- A task with a mark; without its job; with a job again.
 abbrev pub marked : {J : Type 0} → Task J → Task J

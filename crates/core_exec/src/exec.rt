@@ -4,15 +4,17 @@ ghost use Rattle.std.specs.Prelude.{◌==◌, Some, None, IsSome, IsOk, IfOk, If
 ghost use Rattle.std.specs.List.{All};
 ghost use Rattle.std.specs.List.Sorted.{IsNonDecreasingBy, IsPermutation};
 ghost use Rattle.std.specs.Vec.{vec_len, vec_capacity};
-ghost use Rattle.core_exec.specs.Tasks.{HaveJobs, IsApart, unmarked_in};
+ghost use Rattle.core_exec.specs.Tasks.{AreWaiting, HaveJobs, IsApart, unmarked_in};
 ghost use Rattle.core_exec.specs.Turns.{AreCounted, DidNothing, Reaches};
-ghost use Rattle.core_exec.specs.Exec.{IsSound, KeepsDriver, KeepsPlaces, MeetAims, OutputsOf, Spawns, Stands, TakesOut, TurnsTo};
+ghost use Rattle.core_exec.specs.Exec.{IsSound, KeepsDriver, KeepsPlaces, MeetAims, NoneForgotten, OutputsOf, Spawns, Stands, TakesOut, TurnsTo};
 ghost use Rattle.core_exec.specs.Marks.{AreListed, HasDeadlines, with_mark};
+ghost use Rattle.core_exec.specs.Numbers.{AreNumbers};
 ghost use Rattle.core_exec.specs.Places.{ArePlaced, outputs_at};
 ghost use Rattle.core_exec.specs.Exec.{jobs_of, left_of, moment_of, outputs_of, ready_of, spawned_of, tasks_of, turns_of};
 
 use crate::deadlines::Deadlines;
 use crate::job::Job;
+use crate::numbers::Numbers;
 use crate::ready::Ready;
 use crate::table::{Table, Task};
 use crate::turn::{Ran, poll_ready};
@@ -31,12 +33,14 @@ pub struct Exec<D, J, O> {
 
 impl<D, J: Job<D>> Exec<D, J, J::Out> {
     /// An executor of no jobs over a driver. It takes no memory.
+    #[tactic(auto, using(crate::proofs::Numbering::numbers_none))]
     pub fn new(alloc: Global, driver: D) -> Exec<D, J, J::Out>
         ensures stands { Stands J.polls J.cancels result }
         ensures driver { result.driver ≡ driver }
         ensures none { (t : ℕ) → tasks_of result t ≡ None }
         ensures outputs { outputs_of result ≡ [] }
         ensures sound { IsSound J.fits J.apart result }
+        ensures waits { NoneForgotten J.waits result }
         ensures aims { (aims : ℕ → List ℕ) → MeetAims J.aim J.meets aims result }
         ensures counts { (left_of result ≡ 0) × (spawned_of result ≡ 0) × (turns_of result ≡ 0) × (moment_of result ≡ 0) }
     {
@@ -44,6 +48,7 @@ impl<D, J: Job<D>> Exec<D, J, J::Out> {
             driver,
             ready: Ready {
                 table: Table::new(alloc),
+                numbers: Numbers::new(alloc),
                 marks: Vec::new(alloc),
                 deadlines: Deadlines::new(alloc),
                 moment: 0,
@@ -102,6 +107,8 @@ impl<D, J: Job<D>> Exec<D, J, J::Out> {
         ensures reaches { IfOk result (λ ran. Reaches (ready_of now named.now self.old) (tasks_of self.new) ran.polled.items ran.stopped) }
         ensures outputs { IfOk result (λ ran. OutputsOf J.aim J.meets (ready_of now named.now self.old) self.old self.new ran) }
         ensures places { KeepsPlaces self.old self.new }
+        // Where each task that wasn't ready waited in the driver, each that isn't ready in the next turn does.
+        ensures waits { AreWaiting J.waits self.old.driver (ready_of now named.now self.old) → NoneForgotten J.waits self.new }
         ensures counted { OnOk result (turns_of self.new ≡ turns_of self.old + 1) }
 
         // Without memory for the lists, the ready tasks are marked.
@@ -118,7 +125,7 @@ impl<D, J: Job<D>> Exec<D, J, J::Out> {
 
     /// A turn as `turn` makes it. Its answer is put into the lists of an earlier one, so that it takes memory only where these are too
     /// short. `OutOfMemory` comes as there, and then the lists are empty. (not in monoio)
-    #[tactic(auto, using(crate::proofs::Aims::aims_ready, crate::proofs::Aims::aims_same, crate::proofs::Aims::aims_turn, crate::proofs::Placing::stay_marked, crate::proofs::Placing::stay_turn, crate::proofs::Placing::placed_marked, crate::proofs::Placing::placed_turn))]
+    #[tactic(auto, using(crate::proofs::Aims::aims_ready, crate::proofs::Aims::aims_same, crate::proofs::Aims::aims_turn, crate::proofs::Placing::stay_marked, crate::proofs::Placing::stay_turn, crate::proofs::Placing::placed_marked, crate::proofs::Placing::placed_turn, crate::proofs::Numbering::numbers_ready, crate::proofs::Waiting::waiting_same))]
     pub fn turn_into(&mut self, now: u64, named: &[u64], ran: &mut Ran) -> Result<(), OutOfMemory>
         requires stands { Stands J.polls J.cancels self.old }
         requires sound { IsSound J.fits J.apart self.old }
@@ -133,6 +140,8 @@ impl<D, J: Job<D>> Exec<D, J, J::Out> {
         ensures reaches { OnOk result (Reaches (ready_of now named.now self.old) (tasks_of self.new) ran.new.polled.items ran.new.stopped) }
         ensures outputs { OnOk result (OutputsOf J.aim J.meets (ready_of now named.now self.old) self.old self.new ran.new) }
         ensures places { KeepsPlaces self.old self.new }
+        // Where each task that wasn't ready waited in the driver, each that isn't ready in the next turn does.
+        ensures waits { AreWaiting J.waits self.old.driver (ready_of now named.now self.old) → NoneForgotten J.waits self.new }
         ensures counted { OnOk result (turns_of self.new ≡ turns_of self.old + 1) }
         ensures marked { OnErr result ((t : ℕ) → tasks_of self.new t ≡ ready_of now named.now self.old t) }
         ensures err { OnErr result ((self.new.driver ≡ self.old.driver) × (outputs_of self.new ≡ outputs_of self.old)) }
@@ -150,7 +159,7 @@ impl<D, J: Job<D>> Exec<D, J, J::Out> {
 
     /// Makes an unfinished task ready in the next turn, as a waker from another thread does. It takes no memory, and a number of no
     /// unfinished task is ignored. (monoio: `Waker::wake`)
-    #[tactic(auto, using(crate::proofs::Aims::aims_woken, crate::proofs::Aims::sound_woken, crate::proofs::Placing::placed_woken, crate::proofs::Late::set_woken))]
+    #[tactic(auto, using(crate::proofs::Aims::aims_woken, crate::proofs::Aims::sound_woken, crate::proofs::Placing::placed_woken, crate::proofs::Late::set_woken, crate::proofs::Numbering::numbers_woken, crate::proofs::Waiting::waiting_woken))]
     pub fn wake(&mut self, t: u64)
         requires stands { Stands J.polls J.cancels self.old }
         ensures stands { Stands J.polls J.cancels self.new }
@@ -159,6 +168,7 @@ impl<D, J: Job<D>> Exec<D, J, J::Out> {
         ensures numbers { (spawned_of self.new ≡ spawned_of self.old) × (left_of self.new ≡ left_of self.old) }
         ensures outputs { outputs_of self.new ≡ outputs_of self.old }
         ensures sound { IsSound J.fits J.apart self.old → IsSound J.fits J.apart self.new }
+        ensures waits { NoneForgotten J.waits self.old → NoneForgotten J.waits self.new }
         ensures aims { (aims : ℕ → List ℕ) → MeetAims J.aim J.meets aims self.old → MeetAims J.aim J.meets aims self.new }
     {
         self.ready.mark(t);
@@ -173,6 +183,7 @@ impl<D, J: Job<D>> Exec<D, J, J::Out> {
         ensures outputs { OnOk result (vec_len self.new.outputs + left_of self.new < vec_capacity self.new.outputs) }
         ensures kept { KeepsDriver self.old self.new }
         ensures tasks { (self.new.ready.table ≡ self.old.ready.table) × (self.new.ready.deadlines ≡ self.old.ready.deadlines) }
+        ensures known { self.new.ready.numbers ≡ self.old.ready.numbers }
         ensures numbers { spawned_of self.new ≡ spawned_of self.old }
         ensures items { outputs_of self.new ≡ outputs_of self.old }
     {
@@ -183,13 +194,14 @@ impl<D, J: Job<D>> Exec<D, J, J::Out> {
     }
 
     // Spawns a job, with a deadline or without.
-    #[tactic(auto, using(crate::proofs::Aims::aims_spawn, crate::proofs::Aims::aims_same, crate::proofs::Aims::sound_spawn, crate::proofs::Aims::sound_same, crate::proofs::Placing::placed_same))]
+    #[tactic(auto, using(crate::proofs::Aims::aims_spawn, crate::proofs::Aims::aims_same, crate::proofs::Aims::sound_spawn, crate::proofs::Aims::sound_same, crate::proofs::Placing::placed_same, crate::proofs::Numbering::numbers_but_one, crate::proofs::Numbering::absent_number, crate::proofs::Waiting::waiting_spawn, crate::proofs::Waiting::waiting_same))]
     fn spawn_at(&mut self, job: J, deadline: Option<u64>) -> Result<u64, (OutOfMemory, J)>
         requires stands { Stands J.polls J.cancels self.old }
         requires counts { (J.polls job ≡ 0) × (J.cancels job ≡ 0) }
         requires counter { spawned_of self.old < 2 ^ 62 }
         ensures listed { AreListed self.new.ready }
         ensures deadlines { HasDeadlines self.new.ready }
+        ensures known { AreNumbers (tasks_of self.new) self.new.ready.numbers }
         ensures jobs { HaveJobs (tasks_of self.new) }
         ensures turns { AreCounted J.polls J.cancels (turns_of self.new) (tasks_of self.new) }
         ensures below { (t : ℕ) → IsSome (tasks_of self.new t) → t < spawned_of self.new }
@@ -204,11 +216,12 @@ impl<D, J: Job<D>> Exec<D, J, J::Out> {
         // A job that fits the driver as its task and has no operation joins the others; with its number's aim, it meets it.
         ensures sound { J.fits self.old.driver (spawned_of self.old) job → J.idle job → IsSound J.fits J.apart self.old
             → IsSound J.fits J.apart self.new }
+        ensures waits { NoneForgotten J.waits self.old → NoneForgotten J.waits self.new }
         ensures aims { (aims : ℕ → List ℕ) → aims (spawned_of self.old) ≡ J.aim job
             → MeetAims J.aim J.meets aims self.old → MeetAims J.aim J.meets aims self.new }
     {
         let t = self.spawned;
-        if self.reserve().is_err() || self.ready.set_deadline(t, deadline).is_err() {
+        if self.reserve().is_err() || self.ready.add_number(t, deadline).is_err() {
             return Err((OutOfMemory, job));
         }
         let task = Task {
@@ -224,7 +237,7 @@ impl<D, J: Job<D>> Exec<D, J, J::Out> {
                 Ok(t)
             }
             Err(task) => {
-                self.ready.drop_deadline(t, deadline);
+                self.ready.drop_number(t, deadline);
                 let Task {
                     job,
                     marked: _,
@@ -254,6 +267,7 @@ impl<D, J: Job<D>> Exec<D, J, J::Out> {
         // A job that fits the driver as its task and has no operation joins the others; with its number's aim, it meets it.
         ensures sound { J.fits self.old.driver (spawned_of self.old) job → J.idle job → IsSound J.fits J.apart self.old
             → IsSound J.fits J.apart self.new }
+        ensures waits { NoneForgotten J.waits self.old → NoneForgotten J.waits self.new }
         ensures aims { (aims : ℕ → List ℕ) → aims (spawned_of self.old) ≡ J.aim job
             → MeetAims J.aim J.meets aims self.old → MeetAims J.aim J.meets aims self.new }
     {
@@ -276,6 +290,7 @@ impl<D, J: Job<D>> Exec<D, J, J::Out> {
         // A job that fits the driver as its task and has no operation joins the others; with its number's aim, it meets it.
         ensures sound { J.fits self.old.driver (spawned_of self.old) job → J.idle job → IsSound J.fits J.apart self.old
             → IsSound J.fits J.apart self.new }
+        ensures waits { NoneForgotten J.waits self.old → NoneForgotten J.waits self.new }
         ensures aims { (aims : ℕ → List ℕ) → aims (spawned_of self.old) ≡ J.aim job
             → MeetAims J.aim J.meets aims self.old → MeetAims J.aim J.meets aims self.new }
     {
@@ -283,7 +298,7 @@ impl<D, J: Job<D>> Exec<D, J, J::Out> {
     }
 
     /// Takes the outputs that weren't taken, each with its task, ascending by task. If memory runs out, they stay.
-    #[tactic(auto, using(crate::proofs::Aims::sound_same, crate::proofs::Placing::placed_same, crate::proofs::Placing::placed_taken))]
+    #[tactic(auto, using(crate::proofs::Aims::sound_same, crate::proofs::Placing::placed_same, crate::proofs::Placing::placed_taken, crate::proofs::Waiting::waiting_same))]
     pub fn take_done(&mut self) -> Result<Vec<(u64, J::Out)>, OutOfMemory>
         requires stands { Stands J.polls J.cancels self.old }
         ensures stands { Stands J.polls J.cancels self.new }
@@ -300,6 +315,7 @@ impl<D, J: Job<D>> Exec<D, J, J::Out> {
         ensures numbers { (spawned_of self.new ≡ spawned_of self.old) × (left_of self.new ≡ left_of self.old) }
         ensures aims { (aims : ℕ → List ℕ) → MeetAims J.aim J.meets aims self.old → MeetAims J.aim J.meets aims self.new }
         ensures sound { IsSound J.fits J.apart self.old → IsSound J.fits J.apart self.new }
+        ensures waits { NoneForgotten J.waits self.old → NoneForgotten J.waits self.new }
     {
         let mut taken = Vec::new(*self.outputs.allocator());
         taken.append(&mut self.outputs)?;
@@ -308,7 +324,7 @@ impl<D, J: Job<D>> Exec<D, J, J::Out> {
     }
 
     /// Takes out the unfinished task of the lowest number, with its job. It takes no memory.
-    #[tactic(auto, using(crate::proofs::Aims::aims_out, crate::proofs::Aims::aims_same, crate::proofs::Aims::sound_out, crate::proofs::Aims::sound_same, crate::proofs::Aims::apart_out))]
+    #[tactic(auto, using(crate::proofs::Aims::aims_out, crate::proofs::Aims::aims_same, crate::proofs::Aims::sound_out, crate::proofs::Aims::sound_same, crate::proofs::Aims::apart_out, crate::proofs::Numbering::first_number, crate::proofs::Waiting::waiting_out, crate::proofs::Waiting::waiting_same))]
     pub fn take_left(&mut self) -> Option<(u64, J)>
         requires stands { Stands J.polls J.cancels self.old }
         ensures stands { Stands J.polls J.cancels self.new }
@@ -320,16 +336,19 @@ impl<D, J: Job<D>> Exec<D, J, J::Out> {
         ensures numbers { (spawned_of self.new ≡ spawned_of self.old) × (outputs_of self.new ≡ outputs_of self.old) }
         ensures aims { (aims : ℕ → List ℕ) → MeetAims J.aim J.meets aims self.old → MeetAims J.aim J.meets aims self.new }
         ensures sound { IsSound J.fits J.apart self.old → IsSound J.fits J.apart self.new }
+        ensures waits { NoneForgotten J.waits self.old → NoneForgotten J.waits self.new }
         // It fits the driver as that task, and has no operation with those that are left.
         ensures apart { IfSome result (λ taken. IsSound J.fits J.apart self.old
             → IsApart J.fits J.apart self.new.driver (jobs_of self.new) taken.0 taken.1) }
     {
-        let t = self.ready.table.first()?;
-        Some((t, self.take_out(t)))
+        match self.ready.numbers.first() {
+            Some(t) => Some((t, self.take_out(t))),
+            None => None,
+        }
     }
 
     // Takes out an unfinished task: its job.
-    #[tactic(auto, using(crate::proofs::Placing::placed_out))]
+    #[tactic(auto, using(crate::proofs::Placing::placed_out, crate::proofs::Numbering::numbers_but_one))]
     fn take_out(&mut self, t: u64) -> J
         requires stands { Stands J.polls J.cancels self.old }
         requires there { IsSome (tasks_of self.old t) }
@@ -347,7 +366,7 @@ impl<D, J: Job<D>> Exec<D, J, J::Out> {
         };
         let job = self.ready.table.take(t);
         self.ready.table.end(t);
-        self.ready.drop_deadline(t, deadline);
+        self.ready.drop_number(t, deadline);
         job
     }
 
@@ -370,6 +389,7 @@ impl<D, J: Job<D>> Exec<D, J, J::Out> {
         } = self;
         let Ready {
             table,
+            numbers: _,
             marks: _,
             deadlines: _,
             moment: _,

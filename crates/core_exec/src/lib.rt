@@ -4,6 +4,7 @@
 mod deadlines;
 mod exec;
 mod job;
+mod numbers;
 mod ready;
 mod table;
 mod turn;

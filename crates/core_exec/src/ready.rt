@@ -1,15 +1,17 @@
 // Unfinished tasks, a list of those that are marked, and the deadlines that are to come.
-ghost use Rattle.std.specs.Prelude.{◌≡◌, ◌≢◌, ◌<◌, ◌≤◌, ◌+◌, ◌==◌, ◌&&◌, ℕ, not, option_map, true, false, drop, OnOk};
+ghost use Rattle.std.specs.Prelude.{◌≡◌, ◌≢◌, ◌<◌, ◌≤◌, ◌+◌, ◌==◌, ◌&&◌, ℕ, not, option_map, true, false, drop, OnErr, OnOk};
 ghost use Rattle.std.specs.Ordering.{nat_cmp};
 ghost use Rattle.std.specs.List.Sorted.{IsSorted};
 ghost use Rattle.std.specs.Vec.{vec_len, vec_capacity};
-ghost use Rattle.std.specs.BTreeMap.{btree_map_len};
+ghost use Rattle.std.specs.HashMap.{hash_map_len};
 ghost use Rattle.std.specs.BTreeSet.{btree_set_len};
 ghost use Rattle.core_exec.specs.Deadlines.{is_set, IsSetAt, KeepsSet};
 ghost use Rattle.core_exec.specs.Tasks.{task_at, mark_of, unmarked_in};
+ghost use Rattle.core_exec.specs.Numbers.{is_in};
 ghost use Rattle.core_exec.specs.Marks.{AreListed, Covers, HasDeadlines, MarkedLate, with_mark, has_come, has_number, is_late, ready_tasks};
 
 use crate::deadlines::Deadlines;
+use crate::numbers::Numbers;
 use crate::table::Table;
 use rent_buf::OutOfMemory;
 
@@ -17,6 +19,8 @@ use rent_buf::OutOfMemory;
 pub(crate) struct Ready<J> {
     // The tasks.
     pub(crate) table: Table<J>,
+    // Their numbers, in order.
+    pub(crate) numbers: Numbers,
     // Numbers, among them that of each marked task.
     pub(crate) marks: Vec<u64>,
     // The deadlines that are to come.
@@ -45,8 +49,9 @@ impl<J> Ready<J> {
         requires listed { AreListed self.old }
         ensures listed { AreListed self.new }
         ensures each { (s : ℕ) → task_at self.new.table s ≡ option_map (with_mark (s == t)) (task_at self.old.table s) }
-        ensures len { btree_map_len self.new.table.tree ≡ btree_map_len self.old.table.tree }
+        ensures len { hash_map_len self.new.table.map ≡ hash_map_len self.old.table.map }
         ensures deadlines { self.new.deadlines ≡ self.old.deadlines }
+        ensures numbers { self.new.numbers ≡ self.old.numbers }
         ensures moment { self.new.moment ≡ self.old.moment }
     {
         if self.table.mark(t) {
@@ -60,8 +65,9 @@ impl<J> Ready<J> {
         requires listed { AreListed self.old }
         ensures listed { AreListed self.new }
         ensures each { (s : ℕ) → task_at self.new.table s ≡ option_map (with_mark (has_number s named.now)) (task_at self.old.table s) }
-        ensures len { btree_map_len self.new.table.tree ≡ btree_map_len self.old.table.tree }
+        ensures len { hash_map_len self.new.table.map ≡ hash_map_len self.old.table.map }
         ensures deadlines { self.new.deadlines ≡ self.old.deadlines }
+        ensures numbers { self.new.numbers ≡ self.old.numbers }
         ensures moment { self.new.moment ≡ self.old.moment }
     {
         for k in 0..named.len() {
@@ -76,8 +82,9 @@ impl<J> Ready<J> {
         ensures listed { AreListed self.new }
         ensures each { (s : ℕ) → MarkedLate self.old.moment (task_at self.old.table s) (task_at self.new.table s) }
         ensures marked { is_late self.old.moment (task_at self.old.table t) ≡ true → mark_of (task_at self.new.table t) ≡ true }
-        ensures len { btree_map_len self.new.table.tree ≡ btree_map_len self.old.table.tree }
+        ensures len { hash_map_len self.new.table.map ≡ hash_map_len self.old.table.map }
         ensures deadlines { self.new.deadlines ≡ self.old.deadlines }
+        ensures numbers { self.new.numbers ≡ self.old.numbers }
         ensures moment { self.new.moment ≡ self.old.moment }
     {
         match self.table.flags(t) {
@@ -100,7 +107,8 @@ impl<J> Ready<J> {
         ensures each { (s : ℕ) → MarkedLate self.old.moment (task_at self.old.table s) (task_at self.new.table s) }
         ensures none { result ≡ false → (d s : ℕ) → is_set self.new.deadlines d s ≡ true → self.new.moment < d }
         ensures fewer { result ≡ true → btree_set_len self.new.deadlines.set + 1 ≡ btree_set_len self.old.deadlines.set }
-        ensures len { btree_map_len self.new.table.tree ≡ btree_map_len self.old.table.tree }
+        ensures len { hash_map_len self.new.table.map ≡ hash_map_len self.old.table.map }
+        ensures numbers { self.new.numbers ≡ self.old.numbers }
         ensures moment { self.new.moment ≡ self.old.moment }
     {
         match self.deadlines.pop(self.moment) {
@@ -121,7 +129,8 @@ impl<J> Ready<J> {
         ensures deadlines { HasDeadlines self.new }
         ensures each { (s : ℕ) → task_at self.new.table s
             ≡ option_map (with_mark (is_late self.old.moment (task_at self.old.table s))) (task_at self.old.table s) }
-        ensures len { btree_map_len self.new.table.tree ≡ btree_map_len self.old.table.tree }
+        ensures len { hash_map_len self.new.table.map ≡ hash_map_len self.old.table.map }
+        ensures numbers { self.new.numbers ≡ self.old.numbers }
         ensures moment { self.new.moment ≡ self.old.moment }
     {
         while self.mark_first() {}
@@ -137,7 +146,8 @@ impl<J> Ready<J> {
         ensures deadlines { HasDeadlines self.new }
         ensures each { (s : ℕ) → task_at self.new.table s ≡ ready_tasks now named.now (task_at self.old.table) s }
         ensures sorted { IsSorted nat_cmp self.new.marks.items }
-        ensures len { btree_map_len self.new.table.tree ≡ btree_map_len self.old.table.tree }
+        ensures len { hash_map_len self.new.table.map ≡ hash_map_len self.old.table.map }
+        ensures numbers { self.new.numbers ≡ self.old.numbers }
         ensures moment { self.new.moment ≡ now }
     {
         self.moment = now;
@@ -154,6 +164,7 @@ impl<J> Ready<J> {
         ensures listed { AreListed self.new }
         ensures table { self.new.table ≡ self.old.table }
         ensures deadlines { self.new.deadlines ≡ self.old.deadlines }
+        ensures numbers { self.new.numbers ≡ self.old.numbers }
         ensures moment { self.new.moment ≡ self.old.moment }
     {
         let count = self.marks.len();
@@ -162,10 +173,11 @@ impl<J> Ready<J> {
     }
 
     // Sets the deadline of a number that no task has, if it has one.
-    pub(crate) fn set_deadline(&mut self, t: u64, deadline: Option<u64>) -> Result<(), OutOfMemory>
+    fn set_deadline(&mut self, t: u64, deadline: Option<u64>) -> Result<(), OutOfMemory>
         ensures ok { OnOk result (IsSetAt self.new.deadlines t deadline) }
         ensures kept { KeepsSet self.old.deadlines self.new.deadlines }
         ensures same { (self.new.table ≡ self.old.table) × (self.new.marks ≡ self.old.marks) × (self.new.moment ≡ self.old.moment) }
+        ensures numbers { self.new.numbers ≡ self.old.numbers }
     {
         match deadline {
             Some(at) => self.deadlines.add(at, t),
@@ -173,11 +185,32 @@ impl<J> Ready<J> {
         }
     }
 
-    // Drops the deadline of a number, if it has one.
-    pub(crate) fn drop_deadline(&mut self, t: u64, deadline: Option<u64>)
+    // Adds a number that no task has, with its deadline, if it has one.
+    #[tactic(auto, using(crate::proofs::Numbering::absent_still))]
+    pub(crate) fn add_number(&mut self, t: u64, deadline: Option<u64>) -> Result<(), OutOfMemory>
+        requires absent { is_in self.old.numbers t ≡ false }
+        ensures ok { OnOk result ((IsSetAt self.new.deadlines t deadline) × (is_in self.new.numbers t ≡ true)) }
+        ensures err { OnErr result (is_in self.new.numbers t ≡ false) }
+        ensures rest { (s : ℕ) → s ≢ t → is_in self.new.numbers s ≡ is_in self.old.numbers s }
+        ensures kept { KeepsSet self.old.deadlines self.new.deadlines }
+        ensures same { (self.new.table ≡ self.old.table) × (self.new.marks ≡ self.old.marks) × (self.new.moment ≡ self.old.moment) }
+    {
+        self.numbers.add(t)?;
+        if self.set_deadline(t, deadline).is_err() {
+            self.numbers.drop_of(t);
+            return Err(OutOfMemory);
+        }
+        Ok(())
+    }
+
+    // Drops a number, and its deadline, if it has one.
+    pub(crate) fn drop_number(&mut self, t: u64, deadline: Option<u64>)
+        ensures this { is_in self.new.numbers t ≡ false }
+        ensures rest { (s : ℕ) → s ≢ t → is_in self.new.numbers s ≡ is_in self.old.numbers s }
         ensures kept { (d s : ℕ) → s ≢ t → is_set self.old.deadlines d s ≡ true → is_set self.new.deadlines d s ≡ true }
         ensures same { (self.new.table ≡ self.old.table) × (self.new.marks ≡ self.old.marks) × (self.new.moment ≡ self.old.moment) }
     {
+        self.numbers.drop_of(t);
         match deadline {
             Some(at) => self.deadlines.drop_of(at, t),
             None => {}

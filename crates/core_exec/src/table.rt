@@ -1,12 +1,12 @@
 //! Unfinished tasks, by number.
-ghost use Rattle.std.specs.Prelude.{◌≡◌, ◌≢◌, ◌+◌, ◌≤◌, ◌↔◌, ℕ, Some, None, IsSome, IsNone, IfSome, IfNone, OnOk, OnErr, IfErr};
+ghost use Rattle.std.specs.Prelude.{◌≡◌, ◌≢◌, ◌+◌, ℕ, Some, None, IsSome, IfSome, IfNone, OnOk, OnErr, IfErr};
 ghost use Rattle.std.specs.Prelude.{cond, false, option_map};
-ghost use Rattle.std.specs.BTreeMap.{btree_map_len};
+ghost use Rattle.std.specs.HashMap.{hash_map_len};
 ghost use Rattle.core_exec.specs.Tasks.{task_at, job_at, mark_of, unmarked_in, cost, is_unmarked, marked, without_job, with_job, FlagsOf};
 ghost use Rattle.core_exec.specs.Tasks.{TakesMarked};
 
 use std::alloc::Global;
-use std::collections::BTreeMap;
+use std::collections::HashMap;
 
 /// An unfinished task.
 pub struct Task<J> {
@@ -41,35 +41,35 @@ pub(crate) struct Taken<J> {
     pub(crate) canceled: bool,
 }
 
-// The unfinished tasks.
+// The unfinished tasks, found by their numbers.
 pub(crate) struct Table<J> {
-    pub(crate) tree: BTreeMap<u64, Task<J>>,
+    pub(crate) map: HashMap<u64, Task<J>>,
 }
 
 impl<J> Table<J> {
     // No tasks. It takes no memory.
     pub(crate) fn new(alloc: Global) -> Table<J>
         ensures none { (s : ℕ) → task_at result s ≡ None }
-        ensures len { btree_map_len result.tree ≡ 0 }
+        ensures len { hash_map_len result.map ≡ 0 }
         ensures unmarked { unmarked_in result ≡ 0 }
     {
         Table {
-            tree: BTreeMap::new(alloc),
+            map: HashMap::new(alloc),
         }
     }
 
     // How many tasks are unfinished.
     pub(crate) fn len(&self) -> usize
-        ensures { result ≡ btree_map_len self.now.tree }
+        ensures { result ≡ hash_map_len self.now.map }
     {
-        self.tree.len()
+        self.map.len()
     }
 
     // Whether a task is marked, its deadline, and whether it was canceled. None if it is finished.
     pub(crate) fn flags(&self, t: u64) -> Option<Flags>
         ensures { FlagsOf (task_at self.now t) result }
     {
-        match self.tree.get(&t) {
+        match self.map.get(&t) {
             Some(task) => Some(Flags {
                 marked: task.marked,
                 deadline: task.deadline,
@@ -84,10 +84,10 @@ impl<J> Table<J> {
         ensures value { result ≡ is_unmarked (task_at self.old t) }
         ensures this { task_at self.new t ≡ option_map marked (task_at self.old t) }
         ensures rest { (s : ℕ) → s ≢ t → task_at self.new s ≡ task_at self.old s }
-        ensures len { btree_map_len self.new.tree ≡ btree_map_len self.old.tree }
+        ensures len { hash_map_len self.new.map ≡ hash_map_len self.old.map }
         ensures unmarked { unmarked_in self.new + cost (task_at self.old t) ≡ unmarked_in self.old }
     {
-        match self.tree.get_mut(&t) {
+        match self.map.get_mut(&t) {
             Some(task) => {
                 let fresh = !task.marked;
                 task.marked = true;
@@ -103,10 +103,10 @@ impl<J> Table<J> {
         ensures some { IfSome result (TakesMarked (task_at self.old t) (task_at self.new t)) }
         ensures none { IfNone result ((mark_of (task_at self.old t) ≡ false) × (task_at self.new t ≡ task_at self.old t)) }
         ensures rest { (s : ℕ) → s ≢ t → task_at self.new s ≡ task_at self.old s }
-        ensures len { btree_map_len self.new.tree ≡ btree_map_len self.old.tree }
+        ensures len { hash_map_len self.new.map ≡ hash_map_len self.old.map }
         ensures unmarked { unmarked_in self.new ≡ unmarked_in self.old }
     {
-        match self.tree.get_mut(&t) {
+        match self.map.get_mut(&t) {
             Some(task) => {
                 let unmarked = !task.marked;
                 if unmarked {
@@ -131,10 +131,10 @@ impl<J> Table<J> {
         ensures value { job_at self.old t ≡ Some result }
         ensures this { task_at self.new t ≡ option_map without_job (task_at self.old t) }
         ensures rest { (s : ℕ) → s ≢ t → task_at self.new s ≡ task_at self.old s }
-        ensures len { btree_map_len self.new.tree ≡ btree_map_len self.old.tree }
+        ensures len { hash_map_len self.new.map ≡ hash_map_len self.old.map }
         ensures unmarked { unmarked_in self.new ≡ unmarked_in self.old }
     {
-        match self.tree.get_mut(&t) {
+        match self.map.get_mut(&t) {
             Some(task) => match task.job.take() {
                 Some(job) => job,
                 None => unreachable!(),
@@ -149,10 +149,10 @@ impl<J> Table<J> {
         requires gone { job_at self.old t ≡ None }
         ensures this { task_at self.new t ≡ option_map (with_job job marked canceled) (task_at self.old t) }
         ensures rest { (s : ℕ) → s ≢ t → task_at self.new s ≡ task_at self.old s }
-        ensures len { btree_map_len self.new.tree ≡ btree_map_len self.old.tree }
+        ensures len { hash_map_len self.new.map ≡ hash_map_len self.old.map }
         ensures unmarked { unmarked_in self.new + cost (task_at self.old t) ≡ unmarked_in self.old + cond marked 0 1 }
     {
-        match self.tree.get_mut(&t) {
+        match self.map.get_mut(&t) {
             Some(task) => {
                 task.marked = marked;
                 task.canceled = canceled;
@@ -171,10 +171,10 @@ impl<J> Table<J> {
         requires gone { job_at self.old t ≡ None }
         ensures this { task_at self.new t ≡ None }
         ensures rest { (s : ℕ) → s ≢ t → task_at self.new s ≡ task_at self.old s }
-        ensures len { btree_map_len self.new.tree + 1 ≡ btree_map_len self.old.tree }
+        ensures len { hash_map_len self.new.map + 1 ≡ hash_map_len self.old.map }
         ensures unmarked { unmarked_in self.new + cost (task_at self.old t) ≡ unmarked_in self.old }
     {
-        match self.tree.remove(&t) {
+        match self.map.remove(&t) {
             Some(task) => {
                 let Task {
                     job,
@@ -196,12 +196,12 @@ impl<J> Table<J> {
         requires absent { task_at self.old t ≡ None }
         ensures this { OnOk result (task_at self.new t ≡ Some task) }
         ensures rest { (s : ℕ) → s ≢ t → task_at self.new s ≡ task_at self.old s }
-        ensures len { OnOk result (btree_map_len self.new.tree ≡ btree_map_len self.old.tree + 1) }
+        ensures len { OnOk result (hash_map_len self.new.map ≡ hash_map_len self.old.map + 1) }
         ensures unmarked { OnOk result (unmarked_in self.new ≡ unmarked_in self.old + cost (Some task)) }
         ensures back { IfErr result (λ back. back ≡ task) }
-        ensures err { OnErr result (self.new.tree.entries ≡ self.old.tree.entries) }
+        ensures err { OnErr result (self.new.map.entries ≡ self.old.map.entries) }
     {
-        match self.tree.insert(t, task) {
+        match self.map.insert(t, task) {
             Ok(old) => match old {
                 Some(_) => unreachable!(),
                 None => Ok(()),
@@ -213,22 +213,11 @@ impl<J> Table<J> {
         }
     }
 
-    // The lowest number of an unfinished task.
-    pub(crate) fn first(&self) -> Option<u64>
-        ensures some { IfSome result (λ t. IsSome (task_at self.now t) × ((s : ℕ) → IsSome (task_at self.now s) → t ≤ s)) }
-        ensures none { IsNone result ↔ (btree_map_len self.now.tree ≡ 0) }
-    {
-        match self.tree.first_key_value() {
-            Some((t, _)) => Some(*t),
-            None => None,
-        }
-    }
-
     // Frees the table of no tasks.
     pub(crate) fn destroy(self)
-        requires { btree_map_len self.tree ≡ 0 }
+        requires { hash_map_len self.map ≡ 0 }
     {
-        let Table { tree } = self;
-        tree.destroy_empty();
+        let Table { map } = self;
+        map.destroy_empty();
     }
 }

@@ -3,16 +3,18 @@ ghost use Rattle.std.specs.Prelude.{◌≡◌, ◌≢◌, ◌<◌, ◌≤◌, �
 ghost use Rattle.std.specs.Ordering.{nat_cmp};
 ghost use Rattle.std.specs.List.Sorted.{IsSorted};
 ghost use Rattle.std.specs.Vec.{vec_len, vec_capacity};
-ghost use Rattle.std.specs.BTreeMap.{btree_map_len};
+ghost use Rattle.std.specs.HashMap.{hash_map_len};
 ghost use Rattle.core_exec.specs.Deadlines.{is_set, KeepsSet};
-ghost use Rattle.core_exec.specs.Tasks.{AreSound, HaveJobs, task_at, job_at, unmarked_in, mark_of, count_in};
+ghost use Rattle.core_exec.specs.Tasks.{AreSound, AreWaiting, HaveJobs, task_at, job_at, unmarked_in, mark_of, count_in};
 ghost use Rattle.core_exec.specs.Marks.{AreListed, Covers, HasDeadlines, is_late};
+ghost use Rattle.core_exec.specs.Numbers.{AreNumbers, is_in};
 ghost use Rattle.core_exec.specs.Steps.{StepsTask, StepsOutput, MarksStep, with_number, polls_at, ends_at, is_polled, is_done, is_stopped};
 ghost use Rattle.core_exec.specs.Places.{StayPlaced};
 ghost use Rattle.core_exec.specs.Turns.{AddsOutputs, DidNothing, GrowsByOne, HasRoom, Reaches, Turns};
 
 use crate::deadlines::Deadlines;
 use crate::job::Job;
+use crate::numbers::Numbers;
 use crate::ready::Ready;
 use crate::visit::{Visit, visit_task};
 use rent_buf::OutOfMemory;
@@ -103,8 +105,22 @@ fn drop_deadline(deadlines: &mut Deadlines, t: u64, at: Option<u64>, visit: Visi
     }
 }
 
+// Drops the number of a task that is done.
+fn drop_number(numbers: &mut Numbers, t: u64, visit: Visit)
+    ensures this { ends_at visit ≡ true → is_in numbers.new t ≡ false }
+    ensures rest { (s : ℕ) → s ≢ t → is_in numbers.new s ≡ is_in numbers.old s }
+    ensures stays { ends_at visit ≡ false → (s : ℕ) → is_in numbers.new s ≡ is_in numbers.old s }
+{
+    match visit {
+        Visit::Done => numbers.drop_of(t),
+        Visit::Pending => {}
+        Visit::Short => {}
+        Visit::Refused => {}
+    }
+}
+
 // A task's part of a turn, if it is marked.
-#[tactic(auto, using(crate::proofs::Stepping::set_behind_step, crate::proofs::Stepping::jobs_behind_step))]
+#[tactic(auto, using(crate::proofs::Stepping::set_behind_step, crate::proofs::Stepping::jobs_behind_step, crate::proofs::Numbering::numbers_behind_step))]
 fn poll_at<D, J: Job<D>>(
     driver: &mut D,
     ready: &mut Ready<J>,
@@ -115,19 +131,22 @@ fn poll_at<D, J: Job<D>>(
     requires sound { AreSound J.fits J.apart driver.old (job_at ready.old.table) }
     requires jobs { HaveJobs (task_at ready.old.table) }
     requires deadlines { HasDeadlines ready.old }
+    requires numbers { AreNumbers (task_at ready.old.table) ready.old.numbers }
     requires polls { mark_of (task_at ready.old.table t) ≡ true → count_in J.polls (job_at ready.old.table t) < 2 ^ 62 }
     requires cancels { mark_of (task_at ready.old.table t) ≡ true → count_in J.cancels (job_at ready.old.table t) < 2 ^ 62 }
-    requires room { vec_len outputs.old + btree_map_len ready.old.table.tree ≤ vec_capacity outputs.old }
+    requires room { vec_len outputs.old + hash_map_len ready.old.table.map ≤ vec_capacity outputs.old }
     requires polled { vec_len ran.old.polled < vec_capacity ran.old.polled }
     requires canceled { vec_len ran.old.canceled < vec_capacity ran.old.canceled }
     requires done { vec_len ran.old.done < vec_capacity ran.old.done }
     ensures sound { AreSound J.fits J.apart driver.new (job_at ready.new.table) }
+    ensures waits { AreWaiting J.waits driver.old (task_at ready.old.table) → AreWaiting J.waits driver.new (task_at ready.new.table) }
     ensures jobs { HaveJobs (task_at ready.new.table) }
     ensures deadlines { HasDeadlines ready.new }
+    ensures numbers { AreNumbers (task_at ready.new.table) ready.new.numbers }
     ensures this { StepsTask J.polls J.cancels J.aim ready.old.moment (task_at ready.old.table t) (task_at ready.new.table t) result }
     ensures rest { (s : ℕ) → s ≢ t → task_at ready.new.table s ≡ task_at ready.old.table s }
     ensures output { StepsOutput J.aim J.meets t (job_at ready.old.table t) outputs.old.items outputs.new.items result }
-    ensures len { vec_len outputs.new + btree_map_len ready.new.table.tree ≡ vec_len outputs.old + btree_map_len ready.old.table.tree }
+    ensures len { vec_len outputs.new + hash_map_len ready.new.table.map ≡ vec_len outputs.old + hash_map_len ready.old.table.map }
     ensures capacity { vec_capacity outputs.new ≡ vec_capacity outputs.old }
     ensures unmarked { MarksStep result (unmarked_in ready.old.table) (unmarked_in ready.new.table) }
     ensures marks { (ready.new.marks ≡ ready.old.marks) × (ready.new.moment ≡ ready.old.moment) }
@@ -144,6 +163,7 @@ fn poll_at<D, J: Job<D>>(
         Some(visited) => {
             note(ran, t, visited.late, visited.visit);
             drop_deadline(&mut ready.deadlines, t, visited.deadline, visited.visit);
+            drop_number(&mut ready.numbers, t, visited.visit);
             Some(visited.visit)
         }
         None => None,
@@ -174,17 +194,20 @@ pub(crate) fn poll_ready<D, J: Job<D>>(
     requires sound { AreSound J.fits J.apart driver.old (job_at ready.old.table) }
     requires jobs { HaveJobs (task_at ready.old.table) }
     requires deadlines { HasDeadlines ready.old }
+    requires numbers { AreNumbers (task_at ready.old.table) ready.old.numbers }
     requires polls { (s : ℕ) → count_in J.polls (job_at ready.old.table s) < 2 ^ 62 }
     requires cancels { (s : ℕ) → count_in J.cancels (job_at ready.old.table s) < 2 ^ 62 }
     requires listed { AreListed ready.old }
     requires sorted { IsSorted nat_cmp ready.old.marks.items }
-    requires room { vec_len outputs.old + btree_map_len ready.old.table.tree ≤ vec_capacity outputs.old }
+    requires room { vec_len outputs.old + hash_map_len ready.old.table.map ≤ vec_capacity outputs.old }
     requires polled { HasRoom ran.old.polled (vec_len ready.old.marks) }
     requires canceled { HasRoom ran.old.canceled (vec_len ready.old.marks) }
     requires done { HasRoom ran.old.done (vec_len ready.old.marks) }
     ensures sound { AreSound J.fits J.apart driver.new (job_at ready.new.table) }
+    ensures waits { AreWaiting J.waits driver.old (task_at ready.old.table) → AreWaiting J.waits driver.new (task_at ready.new.table) }
     ensures jobs { HaveJobs (task_at ready.new.table) }
     ensures deadlines { HasDeadlines ready.new }
+    ensures numbers { AreNumbers (task_at ready.new.table) ready.new.numbers }
     ensures turns { Turns J.polls J.cancels J.aim ready.old.moment (task_at ready.old.table) (task_at ready.new.table)
         ran.new.polled.items ran.new.canceled.items ran.new.done.items result.1 }
     ensures reaches { Reaches (task_at ready.old.table) (task_at ready.new.table) ran.new.polled.items result.1 }
@@ -195,7 +218,7 @@ pub(crate) fn poll_ready<D, J: Job<D>>(
     ensures marks_room { vec_len ready.new.marks + unmarked_in ready.new.table ≤ vec_capacity ready.new.marks + result.0 }
     ensures marks { ready.new.marks ≡ ready.old.marks }
     ensures moment { ready.new.moment ≡ ready.old.moment }
-    ensures len { vec_len outputs.new + btree_map_len ready.new.table.tree ≡ vec_len outputs.old + btree_map_len ready.old.table.tree }
+    ensures len { vec_len outputs.new + hash_map_len ready.new.table.map ≡ vec_len outputs.old + hash_map_len ready.old.table.map }
     ensures capacity { vec_capacity outputs.new ≡ vec_capacity outputs.old }
     ensures stopped { ran.new.stopped ≡ ran.old.stopped }
 {

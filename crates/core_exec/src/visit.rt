@@ -1,9 +1,9 @@
 // One ready task's part of a turn.
 ghost use Rattle.std.specs.Prelude.{◌≡◌, ◌≢◌, ◌<◌, ◌≤◌, ◌+◌, ◌^◌, ℕ, None, IsSome, IfSome, OnOk, OnErr, true};
 ghost use Rattle.std.specs.Vec.{vec_len, vec_capacity};
-ghost use Rattle.std.specs.BTreeMap.{btree_map_len};
-ghost use Rattle.core_exec.specs.Tasks.{AreSound, HaveJobs, task_at, job_at, unmarked_in, mark_of, count_in, deadline_of};
-ghost use Rattle.core_exec.specs.Answers.{AnswersJob, AsksJob, IfKept, OutputFor, settled_by, visit_of};
+ghost use Rattle.std.specs.HashMap.{hash_map_len};
+ghost use Rattle.core_exec.specs.Tasks.{AreSound, AreWaiting, HaveJobs, task_at, job_at, unmarked_in, mark_of, count_in, deadline_of};
+ghost use Rattle.core_exec.specs.Answers.{AnswersJob, AsksJob, IfKept, IfPends, OutputFor, settled_by, visit_of};
 ghost use Rattle.core_exec.specs.Marks.{is_late};
 ghost use Rattle.core_exec.specs.Visits.{MarksAfter};
 ghost use Rattle.core_exec.specs.Steps.{StepsTask, StepsOutput, MarksStep, visit_in};
@@ -58,6 +58,8 @@ fn cancel_late<D, J: Job<D>>(driver: &mut D, job: &mut J, late: bool) -> Result<
     ensures fits { (s : ℕ) → J.fits driver.old s job.old → J.fits driver.new s job.new }
     ensures others { (other : J) (s : ℕ) → J.fits driver.old s other → J.apart job.old other → J.fits driver.new s other }
     ensures apart { (other : J) (s : ℕ) → J.fits driver.old s other → J.apart job.old other → J.apart job.new other }
+    ensures stays { (other : J) (s : ℕ) → J.fits driver.old s other → J.apart job.old other → J.waits driver.old s other
+        → J.waits driver.new s other }
 {
     if late {
         return job.cancel(driver);
@@ -75,6 +77,9 @@ fn visit_job<D, J: Job<D>>(driver: &mut D, job: J, t: u64, late: bool) -> Answer
     ensures fits { IfKept result (J.fits driver.new t) }
     ensures others { (other : J) (s : ℕ) → J.fits driver.old s other → J.apart job other → J.fits driver.new s other }
     ensures apart { IfKept result (λ next. (other : J) (s : ℕ) → J.fits driver.old s other → J.apart job other → J.apart next other) }
+    ensures waits { IfPends result (J.waits driver.new t) }
+    ensures stays { (other : J) (s : ℕ) → J.fits driver.old s other → J.apart job other → J.waits driver.old s other
+        → J.waits driver.new s other }
 {
     let mut job = job;
     if cancel_late(driver, &mut job, late).is_err() {
@@ -105,7 +110,7 @@ fn settle<J, O: Drop>(
     ensures this { task_at table.new t ≡ settled_by answer canceled late (task_at table.old t) }
     ensures rest { (s : ℕ) → s ≢ t → task_at table.new s ≡ task_at table.old s }
     ensures output { OutputFor answer t outputs.old.items outputs.new.items }
-    ensures len { vec_len outputs.new + btree_map_len table.new.tree ≡ vec_len outputs.old + btree_map_len table.old.tree }
+    ensures len { vec_len outputs.new + hash_map_len table.new.map ≡ vec_len outputs.old + hash_map_len table.old.map }
     ensures capacity { vec_capacity outputs.new ≡ vec_capacity outputs.old }
     ensures unmarked { MarksAfter result (unmarked_in table.old) (unmarked_in table.new) }
 {
@@ -142,12 +147,13 @@ pub(crate) fn visit_task<D, J: Job<D>>(
     requires sound { AreSound J.fits J.apart driver.old (job_at table.old) }
     requires polls { mark_of (task_at table.old t) ≡ true → count_in J.polls (job_at table.old t) < 2 ^ 62 }
     requires cancels { mark_of (task_at table.old t) ≡ true → count_in J.cancels (job_at table.old t) < 2 ^ 62 }
-    requires room { vec_len outputs.old + btree_map_len table.old.tree ≤ vec_capacity outputs.old }
+    requires room { vec_len outputs.old + hash_map_len table.old.map ≤ vec_capacity outputs.old }
     ensures sound { AreSound J.fits J.apart driver.new (job_at table.new) }
+    ensures waits { AreWaiting J.waits driver.old (task_at table.old) → AreWaiting J.waits driver.new (task_at table.new) }
     ensures this { StepsTask J.polls J.cancels J.aim now (task_at table.old t) (task_at table.new t) (visit_in result) }
     ensures rest { (s : ℕ) → s ≢ t → task_at table.new s ≡ task_at table.old s }
     ensures output { StepsOutput J.aim J.meets t (job_at table.old t) outputs.old.items outputs.new.items (visit_in result) }
-    ensures len { vec_len outputs.new + btree_map_len table.new.tree ≡ vec_len outputs.old + btree_map_len table.old.tree }
+    ensures len { vec_len outputs.new + hash_map_len table.new.map ≡ vec_len outputs.old + hash_map_len table.old.map }
     ensures capacity { vec_capacity outputs.new ≡ vec_capacity outputs.old }
     ensures unmarked { MarksStep (visit_in result) (unmarked_in table.old) (unmarked_in table.new) }
     ensures late { IfSome result (λ visited. visited.late ≡ is_late now (task_at table.old t)) }

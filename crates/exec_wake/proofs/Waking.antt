@@ -6,6 +6,7 @@ use Rattle.core_exec.specs.Marks.{has_number, is_late, ready_tasks, with_mark}
 use Rattle.core_exec.specs.Places.{StayPlaced, outputs_at}
 use Rattle.core_exec.proofs.Marking.{no_mark, or_assoc, two_marks}
 use Rattle.core_exec.proofs.Placing.{places_ready}
+use Rattle.core_exec.specs.Tasks.{AreWaiting}
 use Rattle.core_exec.specs.Turns.{AddsOutputs, Reaches, Turns}
 use Rattle.exec_wake.specs.Wakes.{MarksTasks}
 
@@ -105,3 +106,12 @@ placed_all marked was mid is before between after n m k marks outputs counts sta
   stay_all marked was mid is before after marks (subst (λ x. StayPlaced mid x is after) outputs stay.0),
   stay.1 ∙ (ap (λ x. length x + m) outputs ∙ ap (λ x. length before + x) counts),
 )
+
+-- Tasks that wait where all that a turn names are ready wait where some of these are marked before.
+pub waiting_all : {D J : Type 0} (waits : D → ℕ → J → Type 0) (now : ℕ) (marked named : List ℕ) (old mid : D)
+    (was between : ℕ → Option (Task J)) → MarksTasks marked was between → mid ≡ old
+    → AreWaiting waits old (ready_tasks now (marked ++ named) was) → AreWaiting waits mid (ready_tasks now named between)
+waiting_all waits now marked named old mid was between marks driver waiting =
+    let same : ready_tasks now (marked ++ named) was ≡ ready_tasks now named between
+    = λ i s. sym (ready_behind now marked named was between marks s) i in
+    subst (λ d. AreWaiting waits d (ready_tasks now named between)) (sym driver) (subst (AreWaiting waits old) same waiting)

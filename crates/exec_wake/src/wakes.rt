@@ -1,7 +1,8 @@
 //! Wakers make their tasks ready.
 ghost use Rattle.std.specs.Prelude.{◌≡◌, ◌<◌, ◌≤◌, ◌+◌, ◌^◌, ℕ, List, IfOk, OnOk, OnErr};
+ghost use Rattle.core_exec.specs.Tasks.{AreWaiting};
 ghost use Rattle.core_exec.specs.Turns.{Reaches};
-ghost use Rattle.core_exec.specs.Exec.{IsSound, KeepsDriver, KeepsPlaces, MeetAims, OutputsOf, Stands, TurnsTo};
+ghost use Rattle.core_exec.specs.Exec.{IsSound, KeepsDriver, KeepsPlaces, MeetAims, NoneForgotten, OutputsOf, Stands, TurnsTo};
 ghost use Rattle.core_exec.specs.Exec.{left_of, moment_of, outputs_of, ready_of, spawned_of, tasks_of, turns_of};
 ghost use Rattle.exec_wake.specs.Wakes.{MarksTasks, drained_in, named_by, tasks_in};
 
@@ -22,6 +23,7 @@ pub fn wake_all<D, J: Job<D>>(exec: &mut Exec<D, J, J::Out>, wakers: &[Waker])
     ensures numbers { (spawned_of exec.new ≡ spawned_of exec.old) × (left_of exec.new ≡ left_of exec.old) }
     ensures outputs { outputs_of exec.new ≡ outputs_of exec.old }
     ensures aims { (aims : ℕ → List ℕ) → MeetAims J.aim J.meets aims exec.old → MeetAims J.aim J.meets aims exec.new }
+    ensures waits { NoneForgotten J.waits exec.old → NoneForgotten J.waits exec.new }
 {
     let mut rest = wakers;
     while let [waker, behind @ ..] = rest {
@@ -41,6 +43,7 @@ pub fn wake_parked<D, J: Job<D>>(exec: &mut Exec<D, J, J::Out>, parked: &Parked)
     ensures numbers { (spawned_of exec.new ≡ spawned_of exec.old) × (left_of exec.new ≡ left_of exec.old) }
     ensures outputs { outputs_of exec.new ≡ outputs_of exec.old }
     ensures aims { (aims : ℕ → List ℕ) → MeetAims J.aim J.meets aims exec.old → MeetAims J.aim J.meets aims exec.new }
+    ensures waits { NoneForgotten J.waits exec.old → NoneForgotten J.waits exec.new }
 {
     wake_all(exec, parked.remote.first.as_slice());
     wake_all(exec, parked.remote.again.as_slice());
@@ -72,6 +75,9 @@ pub fn turn_parked<D, J: Job<D>>(
     ensures outputs { IfOk result (λ ran. OutputsOf J.aim J.meets (ready_of now (named_by parked.now) exec.old) exec.old exec.new ran) }
     ensures places { KeepsPlaces exec.old exec.new }
     ensures counted { OnOk result (turns_of exec.new ≡ turns_of exec.old + 1) }
+
+    // Where each task that wasn't ready waited in the driver, each that isn't ready in the next turn does.
+    ensures waits { AreWaiting J.waits exec.old.driver (ready_of now (named_by parked.now) exec.old) → NoneForgotten J.waits exec.new }
 
     // Without memory for the lists, these tasks are marked.
     ensures marked { OnErr result ((t : ℕ) → tasks_of exec.new t ≡ ready_of now (named_by parked.now) exec.old t) }

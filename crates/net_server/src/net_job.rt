@@ -1,6 +1,6 @@
 //! A job that accepts on a listener, or that serves a connection.
 ghost use Rattle.std.specs.Prelude.{◌≡◌, ◌<◌, ◌^◌, ◌∷◌, [], ℕ, None, Some, IsSome, IfOk, IfErr, true, IsTrue};
-ghost use Rattle.core_exec.specs.Job.{IfBack, Steps};
+ghost use Rattle.core_exec.specs.Job.{IfBack, IfPending, Steps};
 ghost use Rattle.net_stream.specs.Connection.{FitsConnection};
 ghost use Rattle.net_stream.specs.Drives.{IsGone};
 ghost use Rattle.net_stream.specs.Listener.{FitsListener};
@@ -327,6 +327,9 @@ impl<S: Serve, D: OpDriver<Rent>> Job<NetDriver<D>> for NetJob<S> {
 
     ghost fits = { FitsJob D.ops };
 
+    // What it waits for in the driver isn't said.
+    ghost waits = { λ driver task job. Unit {0} };
+
     ghost apart = { ApartJobs };
 
     ghost idle = { WaitsForNone };
@@ -347,6 +350,8 @@ impl<S: Serve, D: OpDriver<Rent>> Job<NetDriver<D>> for NetJob<S> {
             → FitsJob D.ops driver.new s other }
         ensures apart { IfBack result (λ job. (other : NetJob S) (s : ℕ) → FitsJob D.ops driver.old s other → ApartJobs self other
             → ApartJobs job other) }
+        ensures left_waiting { IfPending result (λ job. Unit {0}) }
+        ensures stays { (other : NetJob S) (s : ℕ) → FitsJob D.ops driver.old s other → ApartJobs self other → Unit {0} → Unit {0} }
         // It is done where its cancel was asked for; and the next turn is to name its task, besides others, or no further one.
         ensures late { IsLate self → IsEnded result }
         ensures names { NamesOwn task driver.old.again.items driver.new.again.items }

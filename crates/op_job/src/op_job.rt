@@ -2,7 +2,8 @@
 ghost use Rattle.std.specs.Prelude.{◌≡◌, ◌<◌, ◌+◌, ◌^◌, ℕ, OnErr, OnOk};
 ghost use Rattle.op_job.specs.OpJob.{AnyEnd, AsksOp, AsksOps, ApartOps, ApartStates, FitsOps, FitsState, GoneOps, HasNoOp, HoldsOps, KeepsApart, PendsBy, PendsJob};
 ghost use Rattle.op_job.specs.OpJob.{apart_swaps, cancels_of, no_aim, polls_of, unsent_apart};
-ghost use Rattle.core_exec.specs.Job.{IfBack, Steps};
+ghost use Rattle.op_job.specs.Waits.{KeepsWaiting, WaitsOps};
+ghost use Rattle.core_exec.specs.Job.{IfBack, IfPending, Steps};
 
 use core_exec::{Job, JobStep};
 use driver_core::{Done, MOST_GIVEN, Op, PollOp, SubmitError, SubmitFault};
@@ -71,7 +72,7 @@ impl<B: IoBufMut + Drop> OpJob<B> {
 }
 
 // Polls an operation for a task.
-#[tactic(auto, using(crate::proofs::Frames::polled_others))]
+#[tactic(auto, using(crate::proofs::Frames::polled_others, crate::proofs::Waits::polled_waits))]
 fn poll_op<B: IoBufMut + Drop, D: OpDriver<B>>(
     driver: &mut D,
     op: Op,
@@ -82,6 +83,7 @@ fn poll_op<B: IoBufMut + Drop, D: OpDriver<B>>(
     ensures same { IfBack result (λ state. state ≡ State.Waiting op) }
     ensures others { KeepsApart (D.ops driver.old) (D.ops driver.new) (State.Waiting op) }
     ensures pends { PendsBy D.polls driver.new task result }
+    ensures stays { KeepsWaiting D.submits D.polls D.cancels D.turns D.ops driver.old driver.new (State.Waiting op) }
 {
     match driver.poll_op(op, task) {
         Ok(PollOp::Pending(op)) => JobStep::Pending(State::Waiting(op)),
@@ -91,7 +93,7 @@ fn poll_op<B: IoBufMut + Drop, D: OpDriver<B>>(
 }
 
 // Submits a request, and polls its operation, so that the driver names the task.
-#[tactic(auto, using(crate::proofs::Frames::kept_fits, crate::proofs::Frames::submitted_fits, crate::proofs::Frames::submitted_apart))]
+#[tactic(auto, using(crate::proofs::Frames::kept_fits, crate::proofs::Frames::submitted_fits, crate::proofs::Frames::submitted_apart, crate::proofs::Waits::submitted_waits))]
 fn submit<B: IoBufMut + Drop, D: OpDriver<B>>(
     driver: &mut D,
     request: Request<B, VecBuf>,
@@ -101,6 +103,7 @@ fn submit<B: IoBufMut + Drop, D: OpDriver<B>>(
     ensures others { (other : State B) → FitsState (D.ops driver.old) other → FitsState (D.ops driver.new) other }
     ensures apart { IfBack result (λ state. (other : State B) → FitsState (D.ops driver.old) other → ApartStates state other) }
     ensures pends { PendsBy D.polls driver.new task result }
+    ensures stays { KeepsWaiting D.submits D.polls D.cancels D.turns D.ops driver.old driver.new (State.Unsent request) }
 {
     if !driver.holds_names(request.names()) || driver.given() >= MOST_GIVEN {
         return JobStep::Done(OpEnd::NotHeld(request));
@@ -127,6 +130,7 @@ fn poll_state<B: IoBufMut + Drop, D: OpDriver<B>>(
     ensures apart { IfBack result (λ next. (other : State B) → FitsState (D.ops driver.old) other → ApartStates state other
         → ApartStates next other) }
     ensures pends { PendsBy D.polls driver.new task result }
+    ensures stays { KeepsWaiting D.submits D.polls D.cancels D.turns D.ops driver.old driver.new state }
 {
     match state {
         State::Unsent(request) => {
@@ -140,7 +144,7 @@ fn poll_state<B: IoBufMut + Drop, D: OpDriver<B>>(
 }
 
 // Asks for the cancel of what a job waits for.
-#[tactic(auto, using(crate::proofs::Frames::kept_fits))]
+#[tactic(auto, using(crate::proofs::Frames::kept_fits, crate::proofs::Waits::canceled_waits))]
 fn cancel_state<B: IoBufMut + Drop, D: OpDriver<B>>(
     driver: &mut D,
     state: &State<B>,
@@ -148,6 +152,7 @@ fn cancel_state<B: IoBufMut + Drop, D: OpDriver<B>>(
     requires fits { FitsState (D.ops driver.old) state.now }
     ensures others { (other : State B) → FitsState (D.ops driver.old) other → FitsState (D.ops driver.new) other }
     ensures asks { AsksOp D.cancels driver.old driver.new state.now result }
+    ensures stays { KeepsWaiting D.submits D.polls D.cancels D.turns D.ops driver.old driver.new state.now }
 {
     match state {
         State::Unsent(_) => Ok(()),
@@ -168,6 +173,8 @@ impl<B: IoBufMut + Drop, D: OpDriver<B>> Job<D> for OpJob<B> {
 
     ghost fits = { FitsOps D.ops };
 
+    ghost waits = { WaitsOps D.submits D.polls D.cancels D.turns };
+
     ghost apart = { ApartOps };
 
     ghost idle = { HasNoOp };
@@ -176,6 +183,7 @@ impl<B: IoBufMut + Drop, D: OpDriver<B>> Job<D> for OpJob<B> {
 
     ghost apart_idle = { λ one other idle. unsent_apart one.state other.state idle };
 
+    #[tactic(auto, using(crate::proofs::Waits::pending_waits))]
     fn poll(self, driver: &mut D, task: u64) -> JobStep<OpJob<B>, OpEnd<B>>
         requires fits { FitsOps D.ops driver.old task self }
         requires counter { polls_of self < 2 ^ 62 }
@@ -185,6 +193,10 @@ impl<B: IoBufMut + Drop, D: OpDriver<B>> Job<D> for OpJob<B> {
             → FitsOps D.ops driver.new s other }
         ensures apart { IfBack result (λ job. (other : OpJob B) (s : ℕ) → FitsOps D.ops driver.old s other → ApartOps self other
             → ApartOps job other) }
+        ensures left_waiting { IfPending result (WaitsOps D.submits D.polls D.cancels D.turns driver.new task) }
+        ensures stays { (other : OpJob B) (s : ℕ) → FitsOps D.ops driver.old s other → ApartOps self other
+            → WaitsOps D.submits D.polls D.cancels D.turns driver.old s other
+            → WaitsOps D.submits D.polls D.cancels D.turns driver.new s other }
         // A job that isn't done waits for an operation that the driver polled last for this task, and that poll was pending.
         ensures pends { PendsJob D.polls driver.new task result }
     {
@@ -221,6 +233,9 @@ impl<B: IoBufMut + Drop, D: OpDriver<B>> Job<D> for OpJob<B> {
             → FitsOps D.ops driver.new s other }
         ensures apart { (other : OpJob B) (s : ℕ) → FitsOps D.ops driver.old s other → ApartOps self.old other
             → ApartOps self.new other }
+        ensures stays { (other : OpJob B) (s : ℕ) → FitsOps D.ops driver.old s other → ApartOps self.old other
+            → WaitsOps D.submits D.polls D.cancels D.turns driver.old s other
+            → WaitsOps D.submits D.polls D.cancels D.turns driver.new s other }
         // The driver is asked for the cancel of the operation that it waits for.
         ensures asks { AsksOps D.cancels driver.old driver.new self.old result }
     {

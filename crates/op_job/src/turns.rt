@@ -1,8 +1,10 @@
 // A turn of a driver, and one of the executor over it.
 ghost use Rattle.std.specs.Prelude.{◌≡◌, ◌<◌, ◌≤◌, ◌+◌, ◌^◌, ℕ, true, false, IfOk, OnErr};
+ghost use Rattle.core_exec.specs.Tasks.{AreWaiting};
 ghost use Rattle.core_exec.specs.Turns.{Reaches};
-ghost use Rattle.core_exec.specs.Exec.{IsSound, KeepsPlaces, Stands, TurnsTo, left_of, moment_of, ready_of, spawned_of, tasks_of, turns_of};
+ghost use Rattle.core_exec.specs.Exec.{IsSound, KeepsPlaces, NoneForgotten, Stands, TurnsTo, left_of, moment_of, ready_of, spawned_of, tasks_of, turns_of};
 ghost use Rattle.op_job.specs.OpJob.{ApartOps, FitsOps, cancels_of, no_aim, polls_of};
+ghost use Rattle.op_job.specs.Waits.{WaitsOps};
 
 use crate::op_job::{OpEnd, OpJob};
 use core_exec::{Exec, Ran};
@@ -14,7 +16,7 @@ use rent_buf::{IoBufMut, OutOfMemory};
 pub type OpExec<D, B> = Exec<D, OpJob<B>, OpEnd<B>>;
 
 // A turn of the driver.
-#[tactic(auto, using(crate::proofs::Frames::kept_sound))]
+#[tactic(auto, using(crate::proofs::Frames::kept_sound, crate::proofs::Waits::turned_waits))]
 fn turn_driver<B: IoBufMut + Drop, D: OpDriver<B>>(exec: &mut OpExec<D, B>) -> Turned
     requires sound { IsSound (FitsOps D.ops) ApartOps exec.old }
     ensures sound { IsSound (FitsOps D.ops) ApartOps exec.new }
@@ -22,6 +24,8 @@ fn turn_driver<B: IoBufMut + Drop, D: OpDriver<B>>(exec: &mut OpExec<D, B>) -> T
     ensures outputs { exec.new.outputs ≡ exec.old.outputs }
     ensures numbers { (exec.new.spawned ≡ exec.old.spawned) × (exec.new.turns ≡ exec.old.turns) }
     ensures turns { D.turns exec.old.driver exec.new.driver result }
+    ensures waits { NoneForgotten (WaitsOps D.submits D.polls D.cancels D.turns) exec.old
+        → (now : ℕ) → AreWaiting (WaitsOps D.submits D.polls D.cancels D.turns) exec.new.driver (ready_of now result.woken exec.new) }
 {
     exec.driver.turn()
 }
@@ -44,6 +48,10 @@ pub fn turn<B: IoBufMut + Drop, D: OpDriver<B>>(
     ensures places { KeepsPlaces exec.old exec.new }
     ensures spawned { spawned_of exec.new ≡ spawned_of exec.old }
     ensures marked { OnErr result.1 ((t : ℕ) → tasks_of exec.new t ≡ ready_of now result.0.woken exec.old t) }
+    // Each task that isn't ready in the next turn waits for its operation: since its last poll, which was pending, the driver did nothing
+    // but submissions, calls of other operations, and turns that don't name the task.
+    ensures waits { NoneForgotten (WaitsOps D.submits D.polls D.cancels D.turns) exec.old
+        → NoneForgotten (WaitsOps D.submits D.polls D.cancels D.turns) exec.new }
     // The driver made a turn of its own, behind which it was so.
     ensures driver { (mid : D) × D.turns exec.old.driver mid result.0 }
 {

@@ -1,6 +1,6 @@
 //! A job that sends its bytes into a pipe, and then receives as many.
 ghost use Rattle.std.specs.Prelude.{◌≡◌, ◌<◌, ◌+◌, ◌^◌, ℕ, OnErr, OnOk};
-ghost use Rattle.core_exec.specs.Job.{IfBack, Steps};
+ghost use Rattle.core_exec.specs.Job.{IfBack, IfPending, Steps};
 ghost use Rattle.ready_driver.specs.LegacyState.{ops_in};
 ghost use Rattle.pipe_job.specs.Awaits.{AwaitsBy, AwaitsJob};
 ghost use Rattle.pipe_job.specs.PipeJob.{FitsPipe, ApartPipes, IsIdle, IsAim, aim_of, cancels_of, polls_of};
@@ -132,6 +132,9 @@ impl<I: NonBlock> Job<LegacyDriver<I, Rent>> for PipeJob {
 
     ghost fits = { FitsPipe };
 
+    // What it waits for in the driver isn't said.
+    ghost waits = { λ driver task job. Unit {0} };
+
     ghost apart = { ApartPipes };
 
     ghost idle = { IsIdle };
@@ -152,6 +155,8 @@ impl<I: NonBlock> Job<LegacyDriver<I, Rent>> for PipeJob {
         ensures others { (other : PipeJob) (s : ℕ) → FitsPipe driver.old s other → ApartPipes self other → FitsPipe driver.new s other }
         ensures apart { IfBack result (λ job. (other : PipeJob) (s : ℕ) → FitsPipe driver.old s other → ApartPipes self other
             → ApartPipes job other) }
+        ensures left_waiting { IfPending result (λ job. Unit {0}) }
+        ensures stays { (other : PipeJob) (s : ℕ) → FitsPipe driver.old s other → ApartPipes self other → Unit {0} → Unit {0} }
         // Each fault has its cause, and it is pending only where more can't be done at once.
         ensures ends { EndsJob I.view driver.old driver.new self result }
         ensures waits { WaitsJob I.view driver.old driver.new result }
@@ -197,6 +202,7 @@ impl<I: NonBlock> Job<LegacyDriver<I, Rent>> for PipeJob {
             → FitsPipe driver.new s other }
         ensures apart { (other : PipeJob) (s : ℕ) → FitsPipe driver.old s other → ApartPipes self.old other
             → ApartPipes self.new other }
+        ensures stays { (other : PipeJob) (s : ℕ) → FitsPipe driver.old s other → ApartPipes self.old other → Unit {0} → Unit {0} }
         // The driver is asked for the cancel of the operation that it waits for.
         ensures asks { AsksPipe driver.old driver.new self.old result }
     {

@@ -35,6 +35,8 @@ impl Job<Memory> for Steps {
 
     ghost fits = { λ driver task job. Unit {0} };
 
+    ghost waits = { λ driver task job. Unit {0} };
+
     ghost apart = { λ one other. Unit {0} };
 
     ghost idle = { λ job. Unit {0} };

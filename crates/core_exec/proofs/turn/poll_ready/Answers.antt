@@ -14,8 +14,10 @@ use Rattle.core_exec.proofs.turn.poll_ready.Goals as goal
 pub loop-k-init : goal.loop-k-init
 loop-k-init g c = record {
   sound = c.requires.sound;
+  waits = λ waiting. waiting;
   jobs = c.requires.jobs;
   deadlines = c.requires.deadlines;
+  numbers = c.requires.numbers;
   marks = refl;
   moment = refl;
   turning = subst (λ P. Turning g.J.Job.polls g.J.Job.cancels g.J.Job.aim c.args.ready.now.moment (task_at c.args.ready.now.table)
@@ -95,8 +97,10 @@ loop-k-preserved g c =
     = c.index-t.ensures ∙ ap (λ v. get_or v.items c.loop-k.k c.index-t.result.now) c.loop-k.invariant.marks in
     record {
       sound = c.poll_at-seen.ensures.sound;
+      waits = λ waiting. c.poll_at-seen.ensures.waits (c.loop-k.invariant.waits waiting);
       jobs = c.poll_at-seen.ensures.jobs;
       deadlines = c.poll_at-seen.ensures.deadlines;
+      numbers = c.poll_at-seen.ensures.numbers;
       marks = c.poll_at-seen.ensures.marks.0 ∙ c.loop-k.invariant.marks;
       moment = c.poll_at-seen.ensures.marks.1 ∙ c.loop-k.invariant.moment;
       turning = loop_next g.J.Job.polls g.J.Job.cancels g.J.Job.aim c.args.ready.now.moment c.loop-k.ready.moment c.loop-k.k

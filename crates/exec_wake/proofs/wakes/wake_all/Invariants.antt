@@ -1,5 +1,5 @@
 use Rattle.std.proofs.Common.{ℕ, ◌≡◌, length, List}
-use Rattle.core_exec.specs.Exec.{IsSound, KeepsDriver, MeetAims, Stands, left_of, outputs_of, spawned_of, tasks_of}
+use Rattle.core_exec.specs.Exec.{IsSound, KeepsDriver, MeetAims, NoneForgotten, Stands, left_of, outputs_of, spawned_of, tasks_of}
 use Rattle.exec_wake.specs.Wakes.{tasks_in}
 use Rattle.exec_wake.proofs.Waking.{MarksRest}
 use Rattle.exec_wake.proofs.wakes.wake_all.Given as goal
@@ -14,6 +14,7 @@ invariant-loop-rest g l = record {
   numbers : (spawned_of l.exec ≡ spawned_of l.initial.exec) × (left_of l.exec ≡ left_of l.initial.exec);
   outputs : outputs_of l.exec ≡ outputs_of l.initial.exec;
   aims : (aims : ℕ → List ℕ) → MeetAims g.J.Job.aim g.J.Job.meets aims l.initial.exec → MeetAims g.J.Job.aim g.J.Job.meets aims l.exec;
+  waits : NoneForgotten g.J.Job.waits l.initial.exec → NoneForgotten g.J.Job.waits l.exec;
 }
 
 abbrev pub decreases-loop-rest : goal.decreases-loop-rest

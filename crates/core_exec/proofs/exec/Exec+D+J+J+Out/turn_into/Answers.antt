@@ -1,5 +1,5 @@
 use Rattle.std.proofs.Common.{rules, ◌≡◌, sym, subst}
-use Rattle.core_exec.specs.Tasks.{task_at}
+use Rattle.core_exec.specs.Tasks.{AreWaiting, task_at}
 use Rattle.core_exec.specs.Marks.{ready_tasks}
 use Rattle.core_exec.specs.Turns.{AddsOutputs, Reaches}
 use Rattle.core_exec.specs.Exec.{HasAims, tasks_of}
@@ -39,6 +39,14 @@ returns-clause-aims g c = λ aims has.
     c.poll_ready-came.ensures.outputs
     (subst (λ was. HasAims g.J.Job.aim g.J.Job.meets aims was c.args.self.now.outputs.items) (sym ready)
     (aims_ready g.J.Job.aim g.J.Job.meets aims c.args.now c.args.named.now (tasks_of c.args.self.now) c.args.self.now.outputs.items has)))
+
+-- what waited in the driver waits
+pub returns-clause-waits : goal.returns-clause-waits
+returns-clause-waits g c = λ waiting.
+    let ready : task_at c.mark_ready.new.self.table ≡ ready_tasks c.args.now c.args.named.now
+    (tasks_of c.args.self.now) = λ i s. c.mark_ready.ensures.each s i in
+    subst (λ table. AreWaiting g.J.Job.waits c.poll_ready-came.new.driver (task_at table)) (sym c.drop_first.ensures.table)
+    (c.poll_ready-came.ensures.waits (subst (AreWaiting g.J.Job.waits c.args.self.now.driver) (sym ready) waiting))
 
 -- each task is in one place at most still
 pub returns-clause-stands : goal.returns-clause-stands

@@ -1,5 +1,5 @@
 use Rattle.std.proofs.Common.{ℕ, ◌≡◌}
-use Rattle.std.specs.BTreeMap.{btree_map_len}
+use Rattle.std.specs.HashMap.{hash_map_len}
 use Rattle.std.specs.BTreeSet.{btree_set_len}
 use Rattle.core_exec.specs.Tasks.{task_at}
 use Rattle.core_exec.specs.Marks.{AreListed, HasDeadlines, MarkedLate}
@@ -11,7 +11,8 @@ invariant-loop g l = record {
   listed : AreListed l.self;
   deadlines : HasDeadlines l.self;
   each : (s : ℕ) → MarkedLate l.initial.self.moment (task_at l.initial.self.table s) (task_at l.self.table s);
-  len : btree_map_len l.self.table.tree ≡ btree_map_len l.initial.self.table.tree;
+  len : hash_map_len l.self.table.map ≡ hash_map_len l.initial.self.table.map;
+  numbers : l.self.numbers ≡ l.initial.self.numbers;
   moment : l.self.moment ≡ l.initial.self.moment;
 }
 

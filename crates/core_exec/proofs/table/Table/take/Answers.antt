@@ -17,7 +17,7 @@ returns-clause-unmarked g c =
           c.in-Some.task.now.deadline;
       canceled = c.in-Some.task.now.canceled;
     } in
-    let counted = unmarked_written c.args.self.now.tree (c.get_mut.follows.lender now) c.args.t c.in-Some.task.now now found
+    let counted = unmarked_written c.args.self.now.map (c.get_mut.follows.lender now) c.args.t c.in-Some.task.now now found
     (c.get_mut.follows.holds now) in
     let costs : cost (task_at c.args.self.now c.args.t) ≡ cost (Some c.in-Some.task.now) = ap cost found in
     omega (arith, counted, costs)

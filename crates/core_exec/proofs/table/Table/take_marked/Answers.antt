@@ -10,7 +10,7 @@ pub returns-then-unmarked-clause-unmarked : goal.returns-then-unmarked-clause-un
 returns-then-unmarked-clause-unmarked g c =
     let found : task_at c.args.self.now c.args.t ≡ Some c.in-Some.task.now = sym c.get_mut.ensures.value
     ∙ ap option_copied_mut c.in-Some.is in
-    let counted = unmarked_written c.args.self.now.tree (c.get_mut.follows.lender c.in-Some.task.now) c.args.t c.in-Some.task.now
+    let counted = unmarked_written c.args.self.now.map (c.get_mut.follows.lender c.in-Some.task.now) c.args.t c.in-Some.task.now
     c.in-Some.task.now found (c.get_mut.follows.holds c.in-Some.task.now) in
     omega (arith, counted)
 
@@ -25,7 +25,7 @@ returns-in-Some-take-clause-unmarked g c =
       deadline = c.in-Some.task.now.deadline;
       canceled = c.in-Some.task.now.canceled;
     } in
-    let counted = unmarked_written c.args.self.now.tree (c.get_mut.follows.lender now) c.args.t c.in-Some.task.now now found
+    let counted = unmarked_written c.args.self.now.map (c.get_mut.follows.lender now) c.args.t c.in-Some.task.now now found
     (c.get_mut.follows.holds now) in
     let costs : cost (task_at c.args.self.now c.args.t) ≡ cost (Some c.in-Some.task.now) = ap cost found in
     omega (arith, counted, costs)

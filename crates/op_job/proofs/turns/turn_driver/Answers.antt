@@ -1,0 +1,10 @@
+use Rattle.std.proofs.Common.{refl}
+use Rattle.core_exec.specs.Exec.{tasks_of}
+use Rattle.op_job.proofs.Waits.{turned_waits}
+use Rattle.op_job.proofs.turns.turn_driver.Goals as goal
+
+-- the turn is a step beside each task that it doesn't name
+pub returns-clause-waits : goal.returns-clause-waits
+returns-clause-waits g c = λ waiting now.
+    turned_waits g.D.OpDriver.submits g.D.OpDriver.polls g.D.OpDriver.cancels g.D.Driver.turns now c.args.exec.now.driver c.turn.new.self
+    c.turn.result (tasks_of c.args.exec.now) (tasks_of c.args.exec.now) c.turn.ensures.turns refl waiting
