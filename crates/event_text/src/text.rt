@@ -35,8 +35,8 @@ pub fn read_events(alloc: Global, text: &[u8]) -> Result<Vec<Event>, LinesError>
     read_lines::<false>(alloc, text)
 }
 
-/// As `read_events`, where only external events are taken: those of a command in which no line is a turn or an execution. The line of
-/// one of these is wrong. (not in monoio)
+/// As `read_events`, where only external events are taken: those of a command in which no line is a turn, an execution or a linked
+/// submission. The line of one of these is wrong. (not in monoio)
 pub fn read_external_events(alloc: Global, text: &[u8]) -> Result<Vec<Event>, LinesError>
     ensures events { IfOk result (λ events. AllZip StandsForExternal (lines text.now) events.items) }
     ensures external { IfOk result (λ events. AreExternal events.items) }

@@ -31,7 +31,7 @@ pub enum Event {
     /// The user gives up the handle of this number.
     Close(u64),
     /// Submits this request as a new operation, under the cancel handle of this number or under none, and linked or not: the request that
-    /// is taken directly behind a linked one waits for its operation.
+    /// is taken directly behind a linked one, by the same taking, waits for its operation.
     Submit(Request<BufSpec, PartsSpec>, Option<u64>, bool),
     /// Polls an operation, by its number, for a task.
     Poll(u64, u64),

@@ -37,7 +37,8 @@ use Rattle.run_laws.proofs.Replies.{reply-at, reply-event}
 use Rattle.run_laws.proofs.Moments.{Placed, History}
 use Rattle.run_laws.proofs.Trace.{Trace}
 use Rattle.run_laws.proofs.Reached.{reached}
-use Rattle.run_laws.proofs.Polls.{traced, lists_before, executed-once}
+use Rattle.run_laws.proofs.Executing.{lists-at}
+use Rattle.run_laws.proofs.Polls.{traced, executed-once}
 use Rattle.run_laws.proofs.Looks.{looked}
 
 -- What stands among completions is named at a place.
@@ -179,7 +180,7 @@ module _ (capacity : ℕ) (events : List Event) where
       let t : Trace capacity events i L = traced capacity events i Turn x.turn.event in
       let mark : done_mark (slice_get L.ops n) ≡ 1 = done-of_reap n i x (slice_get L.ops n) (t.history n) in
       let stands : listed n T.done ≡ 1 = ap (listed n) (done-take_each (record L { queue = [] }) L.queue)
-      ∙ (lists_before capacity events i).standing n ∙ mark in
+      ∙ (lists-at capacity events i).standing n ∙ mark in
       let p = listed-named n T.done (omega (arith, stands)) in
       record {
         reaped = ops_in T.done;
@@ -226,7 +227,7 @@ module _ (capacity : ℕ) (events : List Event) where
       let t : Trace capacity events i L = traced capacity events i Turn event in
       let names : x.reaped ≡ ops_in L.done = (turn-names L x.reaped x.closed x.woken (sym (ap (λ e. (step L e).1) turn) ∙ answer)).0 in
       let stands : 1 ≤ listed n L.done = named-listed n L.done x.place (sym (ap (λ ns. slice_get ns x.place) names) ∙ x.named) in
-      reap-of_done n i event (slice_get L.ops n) (let s = (lists_before capacity events i).standing n in omega arith) (t.history n)
+      reap-of_done n i event (slice_get L.ops n) (let s = (lists-at capacity events i).standing n in omega arith) (t.history n)
 
   -- A Turn names exactly the operations that it reaps.
   pub reap-names : ReapNames capacity events (replies (empty capacity) events)
@@ -246,7 +247,7 @@ module _ (capacity : ℕ) (events : List Event) where
       let told : Told = Fail CANCELED in
       let t : Trace capacity events i L = traced capacity events i (Exec x.place told) x.event in
       let f : (o : Operation) × (slice_get L.ops n ≡ Some o) × (o.place ≡ InFlight) =
-      flying-there L x.place n (lists_before capacity events i) x.there in
+      flying-there L x.place n (lists-at capacity events i) x.there in
       let allows : allowed L (Op n) told ≡ true = sym (ap (passes (λ item. allowed L item told)) x.there)
       ∙ allowed-there L told (nat_le (length L.flying) x.place) (passes (waits L) (slice_get L.flying x.place))
       (slice_get L.flying x.place) x.unrefused in

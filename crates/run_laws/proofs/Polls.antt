@@ -11,9 +11,7 @@ use Rattle.run_laws.proofs.Executing.{executed-flew}
 use Rattle.run_laws.specs.Moments.{IsPolled, IsReapedBefore, HandsOwn}
 use Rattle.run_laws.specs.Headline.{PendingUntilReaped, ReapedOrNot, HandsBackOwn, GivenOnce, ExecutedOnce, ReapedOnce, OneOwn}
 use Rattle.ring_core.proofs.Numbers.{same-or-not, below-or-above}
-use Rattle.ring_core.proofs.Taking.{Listed}
 use Rattle.ring_core.proofs.Stepping.{step-row, OwnedAt, found}
-use Rattle.ring_core.proofs.Lawful.{lawful-ledger}
 use Rattle.run_laws.proofs.Replies.{reply-at}
 use Rattle.run_laws.proofs.Moments.{NotBefore, Executes, Placed, History, reaped-before}
 use Rattle.run_laws.proofs.Trace.{Trace}
@@ -31,10 +29,6 @@ module _ (capacity : ℕ) (events : List Event) where
   -- The trace of the ledger before an event that is there.
   pub traced : (i : ℕ) (e : Event) → slice_get events i ≡ Some e → Trace capacity events i (ledger_before capacity events i)
   traced i e h = reached capacity events i (let l = slice_get_within events i e h in omega arith)
-
-  -- Its lists hold what its places say.
-  pub lists_before : (i : ℕ) → Listed (ledger_before capacity events i)
-  lists_before i = (lawful-ledger capacity (take i events)).lists
 
   -- What was executed isn't in flight again.
   executed-late : (n i j : ℕ) → i < j → Executes capacity events n i → Executes capacity events n j → ⊥

@@ -54,7 +54,7 @@ pub record Runs (capacity : ℕ) (events : List Event) (n i : ℕ) (told : Told)
   pub unrefused : cause (ledger_before capacity events i) (Exec place told) ≡ None
   pub there : slice_get (ledger_before capacity events i).flying place ≡ Some (Op n)
 
--- An operation that is executed itself waits for none: where it did, its leader was executed before.
+-- An operation that is executed itself waits for none.
 abbrev pub StartsFree : ℕ → List Event → Type 0
 StartsFree capacity events =
     (n i leader : ℕ) (told : Told) → Runs capacity events n i told → IsWaiting (ledger_before capacity events i) n leader → ⊥

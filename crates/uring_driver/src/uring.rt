@@ -161,7 +161,7 @@ impl<R: Ring, B: IoBufMut + Drop> IoUringDriver<R, B> {
         // The operation holds each handle that it names, until it is gone, and is a member of its group, until it is gone or dropped.
         ensures joins { IfOk result (λ submitted. JoinsFor self.old self.new request under submitted) }
 
-        // Nothing passes what is pending: its entry, linked or not, joins the end. Over a steady ring nothing becomes due.
+        // Nothing passes what is pending: its entry, which isn't linked, joins the end. Over a steady ring nothing becomes due.
         ensures pending { IsTrue R.tells → SubmitMoves R.view B.buffer false request self.old self.new result }
         ensures none_due { IsTrue R.steady → due_in self.old ≡ [] → due_in self.new ≡ [] }
 
@@ -178,11 +178,11 @@ impl<R: Ring, B: IoBufMut + Drop> IoUringDriver<R, B> {
         self.submit_entry(request, under, false)
     }
 
-    /// Submits a request as `submit_with` does, linked: the request that the ring takes directly behind it, in the same enter, starts only
-    /// once this one has succeeded. Where this one fails, that one ends with the error `CANCELED` and doesn't start; so does the one that
-    /// was linked behind it, and so on, in order. A count of fewer bytes than were asked for is a success too. A turn enters the queue, and
-    /// so does a submission where it is at capacity; a cancel or a close that was queued between the two parts them. (io_uring:
-    /// `IOSQE_IO_LINK`; not in monoio)
+    /// Submits a request as `submit_with` does, linked: its entry is marked so. Over a ring that keeps links, as each that shows its lists
+    /// does (`tells`), the request that the ring takes directly behind it, in the same enter, starts only once this one has succeeded.
+    /// Where this one fails, that one ends with the error `CANCELED` and doesn't start; so does the one that was linked behind it, and so
+    /// on, in order. A count of fewer bytes than were asked for is a success too. A turn enters the queue, and so does a submission where it
+    /// is at capacity; a cancel or a close that was queued between the two parts them. (io_uring: `IOSQE_IO_LINK`; not in monoio)
     pub fn submit_linked(
         &mut self,
         request: Request<B, VecBuf>,
