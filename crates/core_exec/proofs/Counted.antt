@@ -65,6 +65,6 @@ unmarked_removed old new t was found moved =
     ap (λ n. n + cost (Some was)) (unmarked_permuted _ new.entries moved) ∙ unmarked-remove_entry (nat_eq t) old.entries was found
 
 -- A task is added to a map.
-pub unmarked_added : {J S : Type 0} (old new : HashMap ℕ (Task J) S) (t : ℕ) (now : Task J) → IsPermutation ((t, now) ∷ old.entries) new.entries
-    → unmarked new.entries ≡ unmarked old.entries + cost (Some now)
+pub unmarked_added : {J S : Type 0} (old new : HashMap ℕ (Task J) S) (t : ℕ) (now : Task J)
+    → IsPermutation ((t, now) ∷ old.entries) new.entries → unmarked new.entries ≡ unmarked old.entries + cost (Some now)
 unmarked_added old new t now moved = let same = unmarked_permuted ((t, now) ∷ old.entries) new.entries moved in omega (arith, same)

@@ -1,5 +1,6 @@
 pub mod Aims
 pub mod Counted
+pub mod Dating
 pub mod Late
 pub mod Looping
 pub mod Marking

@@ -1,8 +1,9 @@
 -- The order of deadlines and their tasks.
-use Rattle.std.proofs.Common.{ℕ, ◌≡◌, ◌≢◌, ◌≤◌, refl, Bool, true, false, cond, arith}
+use Rattle.std.proofs.Common.{ℕ, ◌≡◌, ◌≢◌, ◌≤◌, refl, sym, Bool, true, false, cond, arith}
 use Rattle.std.specs.Ordering.{nat_cmp, is_eq, is_gt, ordering_then}
 use Rattle.std.specs.declared.cmp.Ordering.{Ordering}
 use Rattle.std.specs.declared.cmp.Ordering.TheVariants.{Less, Equal, Greater}
+use Rattle.core_exec.proofs.Marking.{not_both}
 
 -- What is so stays so where more is.
 pub cond_true : (b y : Bool) → y ≡ true → cond b true y ≡ true
@@ -32,3 +33,12 @@ then_within Greater second within = within
 -- So is the first of such a pair.
 pub pair_within : (a d t s : ℕ) → is_gt (ordering_then (nat_cmp a d) (nat_cmp t s)) ≡ false → a ≤ d
 pair_within a d t s within = number_within a d (then_within (nat_cmp a d) (nat_cmp t s) within)
+
+-- Pairs whose firsts differ aren't equal.
+pub firsts_apart : (a d : ℕ) (second : Ordering) → d ≢ a → is_eq (ordering_then (nat_cmp a d) second) ≡ false
+firsts_apart a d second other = first_apart (nat_cmp a d) second (numbers_apart a d other)
+  where
+    first_apart : (first second : Ordering) → is_eq first ≡ false → is_eq (ordering_then first second) ≡ false
+    first_apart Less second apart = refl
+    first_apart Equal second apart = not_both (sym apart)
+    first_apart Greater second apart = refl

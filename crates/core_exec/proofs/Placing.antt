@@ -104,7 +104,8 @@ pub placed_kept : {J O : Type 0} (spawned : ℕ) (was is : ℕ → Option (Task 
 placed_kept spawned was is before after numbers stay placed = record {
   once = λ t. subst (λ n. n ≤ 1) (sym (stay t)) (placed.once t);
   of_spawned = λ t late.
-      let none : ◌≡◌ {A = ℕ} (cond (is_some (was t)) 1 0) 0 = elim (is_some (was t)) as (λ b. is_some (was t) ≡ b → ◌≡◌ {A = ℕ} (cond b 1 0) 0) [
+      let none : ◌≡◌ {A = ℕ} (cond (is_some (was t)) 1 0) 0 = elim (is_some (was t))
+      as (λ b. is_some (was t) ≡ b → ◌≡◌ {A = ℕ} (cond b 1 0) 0) [
         | true ↦ λ there. (let low = numbers t there in absurd (omega (arith, low, late)))
         | false ↦ λ gone. refl
       ] refl in

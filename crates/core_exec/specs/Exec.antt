@@ -70,9 +70,9 @@ abbrev pub KeepsPlaces : {D J O : Type 0} → Exec D J O → Exec D J O → Type
 KeepsPlaces old new = StayPlaced (tasks_of old) (outputs_of old) (tasks_of new) (outputs_of new)
     × (length (outputs_of new) + left_of new ≡ length (outputs_of old) + left_of old)
 
--- What each call keeps: the marked tasks are found, the deadlines that are to come, and all tasks in order; each task has its job, which was polled in a turn
--- each at most, and its cancel was asked for once where the task was canceled, and else never; its number was given; its output has room;
--- and it is unfinished, or has one output that wasn't taken, or none.
+-- What each call keeps: the marked tasks are found, the deadlines that are to come, and all tasks in order; each task has its job, which
+-- was polled once a turn at most, and its cancel was asked for once where the task was canceled, and else never; its number was given; its
+-- output has room; and it is unfinished, or has one output that wasn't taken, or none.
 pub record Stands {D J O : Type 0} (polls cancels : J → ℕ) (exec : Exec D J O) : Type 0 where
   pub listed : AreListed exec.ready
   pub deadlines : HasDeadlines exec.ready

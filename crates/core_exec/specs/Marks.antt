@@ -1,12 +1,12 @@
 -- Which tasks are marked, and which deadlines are set. Cited by `Ready`.
 use Rattle.std.specs.Prelude.{ℕ, ◌≡◌, ◌≤◌, ◌+◌, ◌⊎◌, ◌==◌, ◌||◌, ◌&&◌, not, nat_le, Bool, true, false, List, [], ◌∷◌, Option, Some}
-use Rattle.std.specs.Prelude.{None, option_map}
+use Rattle.std.specs.Prelude.{None, is_some, option_map}
 use Rattle.std.specs.List.{Contains}
 use Rattle.std.specs.Vec.{vec_len, vec_capacity}
 use Rattle.core_exec.specs.declared.table.Task.{Task}
 use Rattle.core_exec.specs.declared.deadlines.Deadlines.{Deadlines}
 use Rattle.core_exec.specs.declared.ready.Ready.{Ready}
-use Rattle.core_exec.specs.Tasks.{task_at, mark_of, deadline_of, canceled_of, unmarked_in}
+use Rattle.core_exec.specs.Tasks.{task_at, job_in, mark_of, deadline_of, canceled_of, unmarked_in}
 use Rattle.core_exec.specs.Deadlines.{is_set}
 
 -- A number is in a list.
@@ -17,6 +17,18 @@ has_number n (m ∷ numbers) = n == m || has_number n numbers
 -- A task with a mark too, or as it is.
 abbrev pub with_mark : {J : Type 0} → Bool → Task J → Task J
 with_mark mark task = record task { marked = task.marked || mark }
+
+-- A task with another deadline or none, or as it is.
+abbrev pub dated : {J : Type 0} → Bool → Option ℕ → Task J → Task J
+dated true deadline task = record task { deadline = deadline }
+dated false deadline task = task
+
+-- What another deadline leaves of a task that was looked up.
+pub record KeepsButDeadline {J : Type 0} (was is : Option (Task J)) : Type 0 where
+  pub there : is_some is ≡ is_some was
+  pub job : job_in is ≡ job_in was
+  pub mark : mark_of is ≡ mark_of was
+  pub canceled : canceled_of is ≡ canceled_of was
 
 -- A deadline has come.
 abbrev pub has_come : ℕ → Option ℕ → Bool

@@ -34,7 +34,8 @@ impl Deadlines {
 
     // Drops a task's deadline. It takes no memory.
     pub(crate) fn drop_of(&mut self, at: u64, t: u64)
-        ensures { (d s : ℕ) → s ≢ t → is_set self.old d s ≡ true → is_set self.new d s ≡ true }
+        ensures rest { (d : ℕ) → d ≢ at → is_set self.old d t ≡ true → is_set self.new d t ≡ true }
+        ensures others { (d s : ℕ) → s ≢ t → is_set self.old d s ≡ true → is_set self.new d s ≡ true }
     {
         let _ = self.set.remove(&(at, t));
     }

@@ -7,7 +7,7 @@ ghost use Rattle.std.specs.Vec.{vec_len, vec_capacity};
 ghost use Rattle.core_exec.specs.Tasks.{AreWaiting, HaveJobs, IsApart, unmarked_in};
 ghost use Rattle.core_exec.specs.Turns.{AreCounted, DidNothing, Reaches};
 ghost use Rattle.core_exec.specs.Exec.{IsSound, KeepsDriver, KeepsPlaces, MeetAims, NoneForgotten, OutputsOf, Spawns, Stands, TakesOut, TurnsTo};
-ghost use Rattle.core_exec.specs.Marks.{AreListed, HasDeadlines, with_mark};
+ghost use Rattle.core_exec.specs.Marks.{AreListed, HasDeadlines, dated, with_mark};
 ghost use Rattle.core_exec.specs.Numbers.{AreNumbers};
 ghost use Rattle.core_exec.specs.Places.{ArePlaced, outputs_at};
 ghost use Rattle.core_exec.specs.Exec.{jobs_of, left_of, moment_of, outputs_of, ready_of, spawned_of, tasks_of, turns_of};
@@ -172,6 +172,25 @@ impl<D, J: Job<D>> Exec<D, J, J::Out> {
         ensures aims { (aims : ℕ → List ℕ) → MeetAims J.aim J.meets aims self.old → MeetAims J.aim J.meets aims self.new }
     {
         self.ready.mark(t);
+    }
+
+    /// Gives an unfinished task this deadline in place of the one that it had, or none: the first turn at that moment or a later one that
+    /// comes to it asks for its cancel, if it is unfinished then, unless that was asked for before. A number of no unfinished task is
+    /// ignored. If memory runs out nothing changes. (own: an idle deadline is put off so)
+    #[tactic(auto, using(crate::proofs::Dating::aims_dated, crate::proofs::Dating::sound_dated, crate::proofs::Dating::placed_dated, crate::proofs::Dating::jobs_dated, crate::proofs::Dating::counted_dated, crate::proofs::Dating::numbers_dated, crate::proofs::Dating::there_dated, crate::proofs::Dating::waiting_dated))]
+    pub fn set_deadline(&mut self, t: u64, deadline: Option<u64>) -> Result<(), OutOfMemory>
+        requires stands { Stands J.polls J.cancels self.old }
+        ensures stands { Stands J.polls J.cancels self.new }
+        ensures ok { OnOk result ((s : ℕ) → tasks_of self.new s ≡ option_map (dated (s == t) deadline) (tasks_of self.old s)) }
+        ensures err { OnErr result ((s : ℕ) → tasks_of self.new s ≡ tasks_of self.old s) }
+        ensures kept { KeepsDriver self.old self.new }
+        ensures numbers { (spawned_of self.new ≡ spawned_of self.old) × (left_of self.new ≡ left_of self.old) }
+        ensures outputs { outputs_of self.new ≡ outputs_of self.old }
+        ensures sound { IsSound J.fits J.apart self.old → IsSound J.fits J.apart self.new }
+        ensures waits { NoneForgotten J.waits self.old → NoneForgotten J.waits self.new }
+        ensures aims { (aims : ℕ → List ℕ) → MeetAims J.aim J.meets aims self.old → MeetAims J.aim J.meets aims self.new }
+    {
+        self.ready.change_deadline(t, deadline)
     }
 
     // Room for one more task: for its mark, and for its output.

@@ -8,7 +8,7 @@ ghost use Rattle.std.specs.BTreeSet.{btree_set_len};
 ghost use Rattle.core_exec.specs.Deadlines.{is_set, IsSetAt, KeepsSet};
 ghost use Rattle.core_exec.specs.Tasks.{task_at, mark_of, unmarked_in};
 ghost use Rattle.core_exec.specs.Numbers.{is_in};
-ghost use Rattle.core_exec.specs.Marks.{AreListed, Covers, HasDeadlines, MarkedLate, with_mark, has_come, has_number, is_late, ready_tasks};
+ghost use Rattle.core_exec.specs.Marks.{AreListed, Covers, HasDeadlines, KeepsButDeadline, MarkedLate, dated, with_mark, has_come, has_number, is_late, ready_tasks};
 
 use crate::deadlines::Deadlines;
 use crate::numbers::Numbers;
@@ -172,7 +172,7 @@ impl<J> Ready<J> {
         self.marks.truncate(count - came);
     }
 
-    // Sets the deadline of a number that no task has, if it has one.
+    // Sets a deadline of a number, if it is to have one.
     fn set_deadline(&mut self, t: u64, deadline: Option<u64>) -> Result<(), OutOfMemory>
         ensures ok { OnOk result (IsSetAt self.new.deadlines t deadline) }
         ensures kept { KeepsSet self.old.deadlines self.new.deadlines }
@@ -182,6 +182,52 @@ impl<J> Ready<J> {
         match deadline {
             Some(at) => self.deadlines.add(at, t),
             None => Ok(()),
+        }
+    }
+
+    // Gives a task another deadline or none, if there is one of that number: the one that it had is to come no more.
+    #[tactic(auto, using(crate::proofs::Dating::dated_once, crate::proofs::Dating::dated_none, crate::proofs::Dating::dated_keeps, crate::proofs::Dating::same_keeps, crate::proofs::Dating::set_dated, crate::proofs::Dating::covers_dated))]
+    pub(crate) fn change_deadline(
+        &mut self,
+        t: u64,
+        deadline: Option<u64>,
+    ) -> Result<(), OutOfMemory>
+        requires listed { AreListed self.old }
+        requires deadlines { HasDeadlines self.old }
+        ensures listed { AreListed self.new }
+        ensures deadlines { HasDeadlines self.new }
+        ensures ok { OnOk result ((s : ℕ) → task_at self.new.table s ≡ option_map (dated (s == t) deadline) (task_at self.old.table s)) }
+        ensures err { OnErr result (self.new.table ≡ self.old.table) }
+        ensures kept { (s : ℕ) → KeepsButDeadline (task_at self.old.table s) (task_at self.new.table s) }
+        ensures len { hash_map_len self.new.table.map ≡ hash_map_len self.old.table.map }
+        ensures numbers { self.new.numbers ≡ self.old.numbers }
+        ensures moment { self.new.moment ≡ self.old.moment }
+    {
+        let Some(flags) = self.table.flags(t) else {
+            return Ok(());
+        };
+        self.set_deadline(t, deadline)?;
+        self.drop_other(t, flags.deadline, deadline);
+        self.table.set_deadline(t, deadline);
+        Ok(())
+    }
+
+    // Drops the deadline that a task had, if that isn't the one it has.
+    fn drop_other(&mut self, t: u64, was: Option<u64>, is: Option<u64>)
+        requires set { IsSetAt self.old.deadlines t is }
+        ensures set { IsSetAt self.new.deadlines t is }
+        ensures others { (d s : ℕ) → s ≢ t → is_set self.old.deadlines d s ≡ true → is_set self.new.deadlines d s ≡ true }
+        ensures same { (self.new.table ≡ self.old.table) × (self.new.marks ≡ self.old.marks) × (self.new.moment ≡ self.old.moment) }
+        ensures numbers { self.new.numbers ≡ self.old.numbers }
+    {
+        match (was, is) {
+            (None, _) => {}
+            (Some(at), None) => self.deadlines.drop_of(at, t),
+            (Some(at), Some(d)) => {
+                if d != at {
+                    self.deadlines.drop_of(at, t);
+                }
+            }
         }
     }
 

@@ -1,9 +1,10 @@
 //! Unfinished tasks, by number.
 ghost use Rattle.std.specs.Prelude.{◌≡◌, ◌≢◌, ◌+◌, ℕ, Some, None, IsSome, IfSome, IfNone, OnOk, OnErr, IfErr};
-ghost use Rattle.std.specs.Prelude.{cond, false, option_map};
+ghost use Rattle.std.specs.Prelude.{cond, false, true, option_map};
 ghost use Rattle.std.specs.HashMap.{hash_map_len};
 ghost use Rattle.core_exec.specs.Tasks.{task_at, job_at, mark_of, unmarked_in, cost, is_unmarked, marked, without_job, with_job, FlagsOf};
 ghost use Rattle.core_exec.specs.Tasks.{TakesMarked};
+ghost use Rattle.core_exec.specs.Marks.{dated};
 
 use std::alloc::Global;
 use std::collections::HashMap;
@@ -94,6 +95,19 @@ impl<J> Table<J> {
                 fresh
             }
             None => false,
+        }
+    }
+
+    // Gives a task another deadline or none, if there is one of that number.
+    pub(crate) fn set_deadline(&mut self, t: u64, deadline: Option<u64>)
+        ensures this { task_at self.new t ≡ option_map (dated true deadline) (task_at self.old t) }
+        ensures rest { (s : ℕ) → s ≢ t → task_at self.new s ≡ task_at self.old s }
+        ensures len { hash_map_len self.new.map ≡ hash_map_len self.old.map }
+        ensures unmarked { unmarked_in self.new ≡ unmarked_in self.old }
+    {
+        match self.map.get_mut(&t) {
+            Some(task) => task.deadline = deadline,
+            None => {}
         }
     }
 

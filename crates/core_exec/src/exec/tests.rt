@@ -81,12 +81,20 @@ impl Job<Memory> for Steps {
 type Steppers = Exec<Memory, Steps, u64>;
 
 // A job: at which poll it is done, and its deadline.
-const JOBS: [(u64, Option<u64>); 5] = [(1, None), (3, Some(9)), (9, Some(5)), (2, None), (9, None)];
+const JOBS: [(u64, Option<u64>); 6] = [
+    (1, None),
+    (3, Some(9)),
+    (9, Some(5)),
+    (2, None),
+    (9, None),
+    (9, None),
+];
 
-// A turn: its moment, the tasks that are named, and after how many calls memory runs out. Then what is wanted: the tasks that are polled,
-// canceled and done, and at which memory runs out.
+// A turn: the deadlines that tasks are given before it, its moment, the tasks that are named, and after how many calls memory runs out.
+// Then what is wanted: the tasks that are polled, canceled and done, and at which memory runs out.
 #[derive(Clone, Copy)]
 struct Row {
+    dated: &'static [(u64, Option<u64>)],
     now: u64,
     named: &'static [u64],
     calls: u64,
@@ -99,19 +107,20 @@ struct Row {
 #[rattlefmt::skip]
 const ROWS: [Row; 7] = [
     // fresh tasks are polled, and memory runs out at the fourth
-    Row { now: 1, named: &[], calls: 3, polled: &[0, 1, 2, 3], canceled: &[], done: &[0], stopped: Some(3) },
-    // it keeps its mark, and so does the one behind it; a task that is finished or unknown is named in vain
-    Row { now: 2, named: &[0, 1, 9, 1], calls: 9, polled: &[1, 3, 4], canceled: &[], done: &[3], stopped: None },
+    Row { dated: &[], now: 1, named: &[], calls: 3, polled: &[0, 1, 2, 3], canceled: &[], done: &[0], stopped: Some(3) },
+    // it keeps its mark, and so do those behind it; a task that is finished or unknown is named, and given a deadline, in vain
+    Row { dated: &[(0, Some(1)), (9, Some(1))], now: 2, named: &[0, 1, 9, 1], calls: 9, polled: &[1, 3, 4, 5], canceled: &[], done: &[3],
+        stopped: None },
     // nothing is ready
-    Row { now: 4, named: &[], calls: 9, polled: &[], canceled: &[], done: &[], stopped: None },
+    Row { dated: &[(4, Some(5))], now: 4, named: &[], calls: 9, polled: &[], canceled: &[], done: &[], stopped: None },
     // a deadline has come, and memory runs out at the cancel
-    Row { now: 5, named: &[4], calls: 0, polled: &[], canceled: &[], done: &[], stopped: Some(2) },
-    // the cancel is made
-    Row { now: 5, named: &[], calls: 9, polled: &[2, 4], canceled: &[2], done: &[2], stopped: None },
-    // its last poll is before its deadline
-    Row { now: 8, named: &[1], calls: 9, polled: &[1], canceled: &[], done: &[1], stopped: None },
-    // the deadline of a finished task
-    Row { now: 9, named: &[], calls: 9, polled: &[], canceled: &[], done: &[], stopped: None },
+    Row { dated: &[(4, Some(8))], now: 5, named: &[4], calls: 0, polled: &[], canceled: &[], done: &[], stopped: Some(2) },
+    // the cancel is made; a deadline that was put off hasn't come
+    Row { dated: &[], now: 5, named: &[], calls: 9, polled: &[2, 4], canceled: &[2], done: &[2], stopped: None },
+    // its last poll is before its deadline; one that was taken back doesn't come
+    Row { dated: &[(4, None)], now: 8, named: &[1], calls: 9, polled: &[1], canceled: &[], done: &[1], stopped: None },
+    // the deadline of a finished task; one that is given late comes at once
+    Row { dated: &[(5, Some(4))], now: 9, named: &[], calls: 9, polled: &[5], canceled: &[5], done: &[5], stopped: None },
 ];
 
 // A job is let go: it has no operation.
@@ -172,6 +181,22 @@ fn spawn_all(exec: &mut Steppers) -> bool
     true
 }
 
+// Gives tasks their deadlines.
+fn date_each(exec: &mut Steppers, dated: &[(u64, Option<u64>)]) -> bool
+    requires stands { Stands (λ (job : Steps). job.polls) (λ job. job.cancels) exec.old }
+    requires sound { AreSound (λ driver task (job : Steps). Unit {0}) (λ one other. Unit {0}) exec.old.driver (jobs_of exec.old) }
+    ensures stands { Stands (λ (job : Steps). job.polls) (λ job. job.cancels) exec.new }
+    ensures sound { AreSound (λ driver task (job : Steps). Unit {0}) (λ one other. Unit {0}) exec.new.driver (jobs_of exec.new) }
+{
+    for k in 0..dated.len() {
+        let (task, deadline) = dated[k];
+        if exec.set_deadline(task, deadline).is_err() {
+            return false;
+        }
+    }
+    true
+}
+
 // A turn does as its row wants.
 fn turns_so(exec: &mut Steppers, row: &Row) -> bool
     requires stands { Stands (λ (job : Steps). job.polls) (λ job. job.cancels) exec.old }
@@ -180,6 +205,9 @@ fn turns_so(exec: &mut Steppers, row: &Row) -> bool
     ensures sound { AreSound (λ driver task (job : Steps). Unit {0}) (λ one other. Unit {0}) exec.new.driver (jobs_of exec.new) }
 {
     exec.driver.calls = row.calls;
+    if !date_each(exec, row.dated) {
+        return false;
+    }
     if exec.turns() >= 1 << 62 || exec.moment() > row.now {
         return false;
     }
@@ -242,7 +270,7 @@ fn turns_do_as_their_rows_want(rt: HostRuntime) -> Result<(), Fail> {
     let outputs = outputs?;
     assert_eq!(rt;
         outputs.as_slice(),
-        [(0, 0), (1, 1), (2, 2), (3, 3)].as_slice()
+        [(0, 0), (1, 1), (2, 2), (3, 3), (5, 5)].as_slice()
     );
     Ok(())
 }
