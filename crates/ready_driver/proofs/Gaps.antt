@@ -28,7 +28,8 @@ live-joined (Waits v ∷ es) w = ap (λ us. v ∷ us) (live-joined es w)
 live-joined (Gap n ∷ es) w = live-joined es w
 
 -- So a new operation joins.
-pub live_kept : (es ys : List Entry) (w : Waiter) → ys ≡ es ++ Waits w ∷ [] → waiter_of (live es) w.serial ≡ None → live ys ≡ kept (live es) w
+pub live_kept : (es ys : List Entry) (w : Waiter) → ys ≡ es ++ Waits w ∷ [] → waiter_of (live es) w.serial ≡ None
+    → live ys ≡ kept (live es) w
 live_kept es ys w is none = ap live is ∙ live-joined es w ∙ sym (kept-new (live es) w none)
 
 -- Without the gaps the same waits.

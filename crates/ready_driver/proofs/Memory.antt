@@ -87,7 +87,8 @@ pub sound_renewed : (ws ys : List Waiter) (old new : Rooms) (e : Waiter) → ys 
     IsSound ws old → ((d : Direction) → room_of old d ≤ room_of new d) → length ws ≤ room_of new e.direction → IsSound ys new
 sound_renewed ws ys old new e is there sound grown fits = rw is (record {
   once = once-kept ws e sound.once;
-  room = subst (λ n. HasRoom new n (kept ws e)) (sym (length-renewed ws e there)) (room-kept old new (length ws) e grown fits ws sound.room);
+  room = subst (λ n. HasRoom new n (kept ws e)) (sym (length-renewed ws e there))
+      (room-kept old new (length ws) e grown fits ws sound.room);
 })
 
 -- It stays true where an entry was put among others, and there is room for one more in each direction.
@@ -103,7 +104,8 @@ pub sound_joined : {T E : Type 0} (result : Result T E) (ws ys : List Waiter) (o
     OnOk result (ys ≡ kept ws e) → OnErr result (ys ≡ ws) → IsSound ws old → ((d : Direction) → room_of old d ≤ room_of new d) →
     ((d : Direction) → length ws + 1 ≤ room_of new d) → IsSound ys new
 sound_joined (Ok value) ws ys old new e ok err sound grown fits = sound_kept ws ys old new e ok sound fits
-sound_joined (Err error) ws ys old new e ok err sound grown fits = subst (λ zs. IsSound zs new) (sym err) (sound_grown ws old new sound grown)
+sound_joined (Err error) ws ys old new e ok err sound grown fits =
+    subst (λ zs. IsSound zs new) (sym err) (sound_grown ws old new sound grown)
 
 -- It stays true where an operation was forgotten.
 pub sound_forgotten : (ws ys : List Waiter) (rooms : Rooms) (n : ℕ) → ys ≡ forgotten ws n → IsSound ws rooms → IsSound ys rooms
@@ -129,7 +131,8 @@ taken-or-room rooms ready n capacity large [] room = inl refl
 taken-or-room rooms ready n capacity large (w ∷ ws) room =
     by-met (is_met ready w) refl (taken-or-room rooms ready n capacity large ws room.1)
   where
-    by-met : (m : Bool) → is_met ready w ≡ m → (taken ready ws ≡ []) ⊎ (n ≤ capacity) → (cond m (w ∷ taken ready ws) (taken ready ws) ≡ []) ⊎ (n ≤ capacity)
+    by-met : (m : Bool) → is_met ready w ≡ m → (taken ready ws ≡ []) ⊎ (n ≤ capacity)
+        → (cond m (w ∷ taken ready ws) (taken ready ws) ≡ []) ⊎ (n ≤ capacity)
     by-met true met later = inr (let fits = large w.direction met in omega (arith, room.0, fits))
     by-met false met later = later
 

@@ -1,9 +1,8 @@
 -- The entries of the other operations stay behind a call on one, and no bit comes that meets a direction.
-use Rattle.std.proofs.Common.{◌≡◌, ◌≢◌, inl, inr, ◌⊎◌, ℕ, Bool, true, false, not, ◌||◌, ◌==◌, List, [], ◌∷◌, Option, Some, None, option_map}
+use Rattle.std.proofs.Common.{◌≡◌, ◌≢◌, inl, inr, ◌⊎◌, ℕ, Bool, true, false, not, ◌==◌, List, [], ◌∷◌, Option, Some, None, option_map}
 use Rattle.std.proofs.Common.{unwrap_or, refl, sym, ◌∙◌, ap, subst, true≢false}
 use Rattle.std.specs.FinMap.{get}
 use Rattle.std.specs.Prelude.{is_some, Result, Ok, Err}
-use Rattle.std.proofs.lemmas.Bool.Decides.{eqb_tells}
 use Rattle.rent_buf.specs.Buffer.{Buffer}
 use Rattle.rent_buf.specs.Parts.{Parts}
 use Rattle.rent_buf.specs.declared.fault.OutOfMemory.{OutOfMemory}
@@ -32,8 +31,9 @@ use Rattle.ready_driver.specs.Others.{HasEntry, MeetsNone, KeepsOthers}
 use Rattle.ready_driver.specs.Ready.{meets, mask_of, without}
 use Rattle.ready_driver.specs.Records.{Kept, quiet, record_at, io_at, changed, without_record, with_io, with_registered}
 use Rattle.ready_driver.specs.Registry.{Handling, is_known, AreRecorded, MakesReady, registered_each, without_records}
-use Rattle.ready_driver.specs.ScheduledIo.{Scheduled, waiter_of, entry_of}
+use Rattle.ready_driver.specs.ScheduledIo.{waiter_of, entry_of}
 use Rattle.ready_driver.proofs.Bits.{none-without}
+use Rattle.ready_driver.proofs.Polled.{or-first}
 use Rattle.ready_driver.proofs.Recorded.{none-meet, changed-at, changed-none, changed-other}
 use Rattle.ready_driver.proofs.Registering.{recorded-like, recorded-leaves}
 use Rattle.ready_driver.proofs.Waiting.{kept-others, forgotten-others}
@@ -123,11 +123,6 @@ entry-lets old new handles lets all h number entry known has =
       | inl gone ↦ absurd (true≢false (sym there ∙ ap is_some gone))
       | inr same ↦ entry-same old.records (without_records old.records handles) h number entry same has
     ])
-
--- One of two tests fails.
-or-first : (a b : Bool) → (a || b) ≡ false → a ≡ false
-or-first true b h = h
-or-first false b h = refl
 
 -- A handle that was made had no record, so it had no entries.
 entry-hands : {I : Type 0} (view : I → IoView) (tells memory : Bool) (old new : Handling I) (made : Option ℕ) →

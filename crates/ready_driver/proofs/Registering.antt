@@ -88,14 +88,6 @@ recorded-new table records all h new now one held kept =
     recorded-like (with_holders table h by_user) new (with_record records h one) now
     (recorded-given table records all h by_user one) held kept
 
--- An operation's only hold of a handle that was new became the user's: the user holds it, once.
-pub given-user : (table : Table) (h : ℕ) →
-    insert (insert table.holders h by_operation) h (handed (holders_at (with_holders table h by_operation) h)) ≡
-    insert table.holders h by_user
-given-user table h =
-    ap (λ held. insert (insert table.holders h by_operation) h (handed held)) (with-same table h by_operation)
-    ∙ put-twice table.holders h by_operation by_user
-
 -- A handle that is registered has a record.
 pub registered-record : (records : Kept) (h : ℕ) → is_registered records h ≡ true →
     (one : Record) × (record_at records h ≡ Some one) × (one.registered ≡ true)
@@ -116,28 +108,6 @@ registered-again records h is = by (registered-record records h is)
         ap (λ x. changed_if x records h (with_registered true)) there
         ∙ ap (λ b. with_record records h (record one { registered = b })) (sym registered)
         ∙ ap (λ m. record records { handles = m }) (put-self records.handles h one there)
-
--- A new handle of the user, by its table: an operation's only hold of it became the user's.
-pub given-holders : (table mid new : Table) (h spare : ℕ) → mid ≡ record (with_holders table h by_operation) { spare = spare } →
-    new ≡ with_holders mid h (handed (holders_at mid h)) → new.holders ≡ insert table.holders h by_user
-given-holders table mid new h spare is now =
-    ap (λ t. t.holders) now ∙ ap (λ (t : Table). insert t.holders h (handed (holders_at t h))) is ∙ given-user table h
-
--- An operation holds a handle that it got.
-pub got-held : (table mid : Table) (h spare : ℕ) → mid ≡ record (with_holders table h by_operation) { spare = spare } →
-    0 < (holders_at mid h).operations
-got-held table mid h spare is =
-    subst (λ (t : Table). 0 < (holders_at t h).operations) (sym is)
-    (subst (λ (held : Holders). 0 < held.operations) (sym (with-same table h by_operation)) (omega arith))
-
--- Its record, which it just got, once it changed.
-pub changed-given : (records mid new : Kept) (h spare : ℕ) (one : Record) (change : Record → Record) →
-    mid ≡ record (with_record records h one) { spare = spare } → new ≡ changed mid h change →
-    new.handles ≡ insert records.handles h (change one)
-changed-given records mid new h spare one change is now =
-    ap (λ k. k.handles) now ∙ ap (λ (k : Kept). (changed k h change).handles) is
-    ∙ ap (λ x. (changed_if x (record (with_record records h one) { spare = spare }) h change).handles) (put-same records.handles h one)
-    ∙ put-twice records.handles h one (change one)
 
 -- What is left of the records by a poll by the bits has just the records that there were.
 pub recorded-left : {B : Type 0} (table : Table) (met : Bool) (old : Kept) (h : ℕ) (entry : Waiter) (new : Kept)

@@ -1,10 +1,13 @@
--- The records of handles as contracts see them: what each handle is ready for, what waits for it, and whether it is registered. Cited by
--- `Records`.
-use Rattle.std.specs.Prelude.{ℕ, ◌≤◌, Bool, false, List, [], Option, Some, None, unwrap_or, option_map, refl}
+-- The records of handles as contracts see them: who holds each handle, what it is ready for, what waits for it, and whether it is
+-- registered. Cited by `Records`.
+use Rattle.std.specs.Prelude.{ℕ, ◌≤◌, Bool, false, List, [], Option, Some, None, unwrap_or, option_map, map as mapped, refl}
 use Rattle.std.specs.Ordering.{nat_cmp}
 use Rattle.std.specs.FinMap as map
 use Rattle.std.specs.HashMap.{HashMap, spare}
 use Rattle.std.specs.Coded.{Coded, code_by, coded×, coded_ℕ}
+use Rattle.handle_core.specs.declared.table.Holders.{Holders}
+use Rattle.handle_core.specs.Table.{Table, table_code, table_of, with_holders, without_handle}
+use Rattle.ready_driver.specs.declared.records.One.{One}
 use Rattle.ready_driver.specs.declared.records.Record.{Record}
 use Rattle.ready_driver.specs.ScheduledIo.{Scheduled}
 
@@ -70,6 +73,44 @@ with_io change one = record one { io = change one.io }
 abbrev pub with_registered : Bool → Record → Record
 with_registered is one = record one { registered = is }
 
+-- Who holds each handle, and the record of each.
+pub record Holdings : Type 0 where
+  pub table : Table
+  pub records : Kept
+
+-- They are stored as the pair of their fields.
+abbrev pub holdings_code : Coded Record → Coded Holdings
+holdings_code one = code_by
+    (Table × Kept)
+    (coded× table_code (kept_code one))
+    (λ a. (a.table, a.records))
+    (λ p. record { table = p.0; records = p.1 })
+    (λ _. refl)
+
+-- Who holds the handle of each of these entries.
+abbrev pub held_entries : List (ℕ × One) → List (ℕ × Holders)
+held_entries entries = mapped (λ e. (e.0, e.1.held)) entries
+
+-- The record of the handle of each.
+abbrev pub kept_entries : List (ℕ × One) → List (ℕ × Record)
+kept_entries entries = mapped (λ e. (e.0, e.1.kept)) entries
+
+-- What these entries make, with memory for so many more of them.
+abbrev pub holdings_of : List (ℕ × One) → ℕ → Holdings
+holdings_of entries spare = record { table = table_of (held_entries entries) spare; records = kept_of (kept_entries entries) spare }
+
+-- There is memory for so many more handles.
+abbrev pub with_room : Holdings → ℕ → Holdings
+with_room all spare = record { table = record all.table { spare = spare }; records = record all.records { spare = spare } }
+
+-- A handle has these holders and this record.
+abbrev pub with_one : Holdings → ℕ → Holders → Record → Holdings
+with_one all h held one = record { table = with_holders all.table h held; records = with_record all.records h one }
+
+-- A handle has no holders, and no record.
+abbrev pub without_one : Holdings → ℕ → Holdings
+without_one all h = record { table = without_handle all.table h; records = without_record all.records h }
+
 -- What the body keeps true: the reserved memory is there.
-pub record IsRoomy {S : Type 0} (handles : HashMap ℕ Record S) (reserved : ℕ) : Type 0 where
+pub record IsRoomy {S : Type 0} (handles : HashMap ℕ One S) (reserved : ℕ) : Type 0 where
   pub room : reserved ≤ spare handles

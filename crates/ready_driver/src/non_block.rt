@@ -120,10 +120,10 @@ impl Reports {
 /// became ready. (monoio: the non-blocking file descriptors, and `mio::Poll`)
 ///
 /// Every object shows three counts, which never fall: how often it failed, would have blocked, and ended a call with an error; the number
-/// of the last call that failed; how often it waited, and was asked to close a handle; and behind a wait that didn't fail, the limit of that
-/// wait. Some show their handles too, as a world has them, and some what a wait reports; and some
-/// are a world in memory, which is known in all: a wait reports each handle that is due, as it is from its registration on, from a call
-/// that would block on it, and from what arrives at it.
+/// of the last call that failed; how often it waited, and was asked to close a handle; and behind a wait that didn't fail, the limit of
+/// that wait. Some show their handles too, as a world has them, and some what a wait reports; and some are a world in memory, which is
+/// known in all: a wait reports each handle that is due, as it is from its registration on, from a call that would block on it, and from
+/// what arrives at it.
 pub trait NonBlock: Calls + Drop {
     // The object as a value.
     ghost view: { Self → IoView };

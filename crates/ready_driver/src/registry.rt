@@ -17,7 +17,7 @@ mod turn;
 use crate::non_block::{NonBlock, NonBlockError};
 use crate::ready::Ready;
 use crate::records::Records;
-use handle_core::{HandleTable, MAX_HOLDS, SharedFd};
+use handle_core::{MAX_HOLDS, SharedFd};
 use rent_buf::OutOfMemory;
 use ring_core::{MOST_HANDLES, Names};
 use std::alloc::Global;
@@ -29,7 +29,6 @@ use std::marker::Model;
 #[derive(Drop)]
 pub struct Registry<I: NonBlock> {
     io: I,
-    table: HandleTable,
     records: Records,
 }
 
@@ -41,9 +40,9 @@ impl<I: NonBlock> Model for Registry<I> {
 
     ghost coded = { handling_code I.code (Prim.hlevel codes) };
 
-    ghost view = { λ r. record { io = r.io; table = r.table; records = r.records } };
+    ghost view = { λ r. record { io = r.io; table = r.records.table; records = r.records.records } };
 
-    ghost invariant = { λ r. AreRecorded r.table r.records };
+    ghost invariant = { λ r. AreRecorded r.records.table r.records.records };
 }
 
 impl<I: NonBlock> Registry<I> {
@@ -57,7 +56,6 @@ impl<I: NonBlock> Registry<I> {
     {
         Registry {
             io,
-            table: HandleTable::new(alloc),
             records: Records::new(alloc),
         }
     }
@@ -75,7 +73,6 @@ impl<I: NonBlock> Registry<I> {
     {
         let Registry {
             io,
-            table: _table,
             records: _records,
         } = self;
         io
@@ -85,7 +82,7 @@ impl<I: NonBlock> Registry<I> {
     pub fn user_count(&self, h: u64) -> u64
         ensures { result ≡ (holders_at self.now.table h).user }
     {
-        match self.table.holders(h) {
+        match self.records.holders(h) {
             Some(held) => held.user,
             None => 0,
         }
@@ -114,11 +111,10 @@ impl<I: NonBlock> Registry<I> {
         ensures value { result ≡ is_known self.now.table h }
         ensures recorded { AreRecorded self.now.table self.now.records }
     {
-        let _one = self.records.registered(h);
-        self.table.holders(h).is_some()
+        self.records.holders(h).is_some()
     }
 
-    /// Just the handles that somebody holds have records. (not in monoio)
+    /// Just the handles that somebody holds have records. It does nothing: it is for proofs. (not in monoio)
     pub fn recorded(&self)
         ensures { AreRecorded self.now.table self.now.records }
     {
@@ -152,11 +148,7 @@ impl<I: NonBlock> Registry<I> {
         ensures same { IsSameButRoom self.old self.new }
         ensures ok { OnOk result (HasMadeRoom self.new) }
     {
-        self.records.reserve(1)?;
-        match self.table.reserve(1) {
-            Ok(()) => Ok(()),
-            Err(_) => Err(OutOfMemory),
-        }
+        self.records.reserve(1)
     }
 
     /// The user holds a handle that nobody held. The memory for it and for its record is taken first; if that runs out, nothing but
@@ -195,12 +187,9 @@ impl<I: NonBlock> Registry<I> {
         requires room { HasMadeRoom self.old }
         ensures { GivesUser I.view I.tells I.memory self.old h self.new }
     {
-        self.table.add_op_reserved(h);
-        self.table.hand_over(h);
-        self.records.add_reserved(h);
         match self.io.register(h, h as usize) {
-            Ok(()) => self.records.set_registered(h),
-            Err(_) => {}
+            Ok(()) => self.records.add_reserved(h, true),
+            Err(_) => self.records.add_reserved(h, false),
         }
     }
 
@@ -264,7 +253,7 @@ impl<I: NonBlock> Registry<I> {
         requires counter { (holders_at self.old.table h).operations < MAX_HOLDS }
         ensures { self.new ≡ record self.old { table = with_holders self.old.table h (with_operation (holders_at self.old.table h)) } }
     {
-        self.table.hold_op(h);
+        self.records.hold_op(h);
     }
 
     /// The user, who holds a handle, holds it once more. It takes no memory. (monoio: `SharedFd::clone`)
@@ -273,6 +262,6 @@ impl<I: NonBlock> Registry<I> {
         requires counter { (holders_at self.old.table h).user < MAX_HOLDS }
         ensures { self.new ≡ record self.old { table = with_holders self.old.table h (with_user (holders_at self.old.table h)) } }
     {
-        self.table.hold(h);
+        self.records.hold(h);
     }
 }

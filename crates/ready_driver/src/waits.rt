@@ -57,8 +57,8 @@ pub fn awaited<B>(slot: Option<&Slot<B>>) -> Option<(u64, Direction)>
     }
 }
 
-/// Polls an operation: where it waits for a direction of a handle that is no file, by the bits of that handle (`Records::poll_op`); else its
-/// call is made at once (`polling::poll`). (monoio: `poll_op` of the legacy driver)
+/// Polls an operation: where it waits for a direction of a handle that is no file, by the bits of that handle (`Records::poll_op`); else
+/// its call is made at once (`polling::poll`). (monoio: `poll_op` of the legacy driver)
 pub fn poll_op<I: NonBlock, B: IoBufMut + Drop>(
     ops: &mut Operations<B>,
     io: &mut I,
@@ -68,20 +68,22 @@ pub fn poll_op<I: NonBlock, B: IoBufMut + Drop>(
 ) -> Result<PollOp<B>, (OutOfMemory, Op)>
     requires { Holds ops.old op }
     ensures polls { IsTrue I.memory → (D : Legacy) → PartsStand B.buffer ops.old (I.view io.old).world D →
-        PollsUnless (IsWorldUnmet records.old (I.view io.old).world (map.get ops.old.slots.values (key_of op)))
+        PollsUnless (IsWorldUnmet records.old.records (I.view io.old).world (map.get ops.old.slots.values (key_of op)))
         B.buffer D op ops.new (I.view io.new).world result }
-    ensures blocks { BlocksUnless (IsSlotUnmet records.old (map.get ops.old.slots.values (key_of op)))
+    ensures blocks { BlocksUnless (IsSlotUnmet records.old.records (map.get ops.old.slots.values (key_of op)))
         (I.view io.old) (I.view io.new) result }
-    ensures calls { CallsOnce (is_met_at records.old (unless (I.files io.old) (slot_awaits (map.get ops.old.slots.values (key_of op)))))
+    ensures calls { CallsOnce (is_met_at records.old.records
+        (unless (I.files io.old) (slot_awaits (map.get ops.old.slots.values (key_of op)))))
         B.buffer I.called (map.get ops.old.slots.values (key_of op)) io.old
         (map.get ops.new.slots.values (key_of op)) io.new result }
     ensures returns { ReturnsFor (map.get ops.old.slots.values (key_of op)) (I.view io.old) (I.view io.new) result }
     ensures leaves { LeavesFor (unless (I.files io.old) (slot_awaits (map.get ops.old.slots.values (key_of op))))
-        records.old (number_of op) task records.new result }
+        records.old.records (number_of op) task records.new.records result }
     ensures keys { IsTrue I.memory → made_in (map.get ops.old.slots.values (key_of op)) ≡ None →
         KeysFor (I.view io.old).keys (I.view io.new).keys result }
     ensures later { IsLater (I.view io.old) (I.view io.new) }
-    ensures shown { IsTrue I.memory → KeepsBits (I.view io.old) records.old (I.view io.new) records.new }
+    ensures shown { IsTrue I.memory → KeepsBits (I.view io.old) records.old.records (I.view io.new) records.new.records }
+    ensures table { records.new.table ≡ records.old.table }
     ensures slots { PollsSlotFor ops.old ops.new op result }
     ensures tokens { TokensFor ops.old ops.new op result }
     ensures given { ops.new.given ≡ ops.old.given }

@@ -35,17 +35,18 @@ impl Records {
     ) -> Result<PollOp<B>, (OutOfMemory, Op)>
         requires { Holds ops.old op }
         ensures polls { IsTrue I.memory → (D : Legacy) → PartsStand B.buffer ops.old (I.view io.old).world D →
-            PollsUnless (IsUnmet self.old h dir) B.buffer D op ops.new (I.view io.new).world result }
-        ensures blocks { BlocksUnless (IsUnmet self.old h dir) (I.view io.old) (I.view io.new) result }
-        ensures calls { CallsOnce (meets (io_at self.old h).ready (mask_of dir)) B.buffer I.called
+            PollsUnless (IsUnmet self.old.records h dir) B.buffer D op ops.new (I.view io.new).world result }
+        ensures blocks { BlocksUnless (IsUnmet self.old.records h dir) (I.view io.old) (I.view io.new) result }
+        ensures calls { CallsOnce (meets (io_at self.old.records h).ready (mask_of dir)) B.buffer I.called
             (map.get ops.old.slots.values (key_of op)) io.old (map.get ops.new.slots.values (key_of op)) io.new result }
         ensures returns { ReturnsFor (map.get ops.old.slots.values (key_of op)) (I.view io.old) (I.view io.new) result }
-        ensures leaves { Leaves self.old h (entry_of (number_of op) task dir) self.new result }
+        ensures leaves { Leaves self.old.records h (entry_of (number_of op) task dir) self.new.records result }
         ensures keys { IsTrue I.memory → made_in (map.get ops.old.slots.values (key_of op)) ≡ None →
             KeysFor (I.view io.old).keys (I.view io.new).keys result }
         ensures later { IsLater (I.view io.old) (I.view io.new) }
         ensures shown { IsTrue I.memory → slot_awaits (map.get ops.old.slots.values (key_of op)) ≡ Some (h, dir) →
-            KeepsBits (I.view io.old) self.old (I.view io.new) self.new }
+            KeepsBits (I.view io.old) self.old.records (I.view io.new) self.new.records }
+        ensures table { self.new.table ≡ self.old.table }
         ensures slots { PollsSlotFor ops.old ops.new op result }
         ensures tokens { TokensFor ops.old ops.new op result }
         ensures given { ops.new.given ≡ ops.old.given }
@@ -53,6 +54,6 @@ impl Records {
         let Some(one) = self.handles.get_mut(&h) else {
             return Ok(PollOp::Pending(op));
         };
-        one.io.poll_op(ops, io, op, task, dir)
+        one.kept.io.poll_op(ops, io, op, task, dir)
     }
 }

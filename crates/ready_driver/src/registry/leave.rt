@@ -4,11 +4,9 @@ ghost use Rattle.handle_core.specs.Table.{holders_at, without_user};
 ghost use Rattle.ring_core.specs.Request.{listed};
 ghost use Rattle.driver_core.specs.Holds.{is_nobody, settled, without_ops, unheld_by, CanLeave};
 ghost use Rattle.ready_driver.specs.Io.{IsStill, closes_after};
-ghost use Rattle.ready_driver.specs.Records.{without_record};
 ghost use Rattle.ready_driver.specs.Registry.{is_users, unheld_if, without_keys, LetsGo};
 
 use crate::non_block::NonBlock;
-use crate::records::Records;
 use crate::registry::Registry;
 use handle_core::Released;
 use ring_core::Names;
@@ -23,10 +21,10 @@ impl<I: NonBlock> Registry<I> {
         ensures leaves { LetsGo I.view I.tells I.memory self.old (settled self.old.table h (without_user (holders_at self.old.table h)))
             (unheld_if (is_nobody (without_user (holders_at self.old.table h))) h) self.new }
     {
-        match self.table.release(h) {
+        match self.records.release(h) {
             Released::Held => Released::Held,
             Released::Last => {
-                close(&mut self.io, &mut self.records, h);
+                close(&mut self.io, h);
                 Released::Last
             }
         }
@@ -55,20 +53,18 @@ impl<I: NonBlock> Registry<I> {
         ensures { LetsGo I.view I.tells I.memory self.old (without_ops self.old.table (h ∷ []))
             (unheld_by self.old.table (h ∷ [])) self.new }
     {
-        match self.table.release_op(h) {
+        match self.records.release_op(h) {
             Released::Held => {}
-            Released::Last => close(&mut self.io, &mut self.records, h),
+            Released::Last => close(&mut self.io, h),
         }
     }
 }
 
-// A handle isn't registered any more, is closed once, and has no record. What the object answers is passed over.
-fn close<I: NonBlock>(io: &mut I, records: &mut Records, h: u64)
-    ensures records { records.new ≡ without_record records.old h }
-    ensures object { IsStill I.tells I.memory (I.view io.old) (I.view io.new) (without_keys (I.view io.old).keys (h ∷ []))
+// A handle isn't registered any more, and is closed once. What the object answers is passed over.
+fn close<I: NonBlock>(io: &mut I, h: u64)
+    ensures { IsStill I.tells I.memory (I.view io.old) (I.view io.new) (without_keys (I.view io.old).keys (h ∷ []))
         (closes_after (I.view io.old).closes (h ∷ [])) }
 {
     let _ = io.deregister(h);
     let _ = io.close(h);
-    records.remove(h);
 }

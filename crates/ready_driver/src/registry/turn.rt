@@ -55,8 +55,8 @@ impl<I: NonBlock> Registry<I> {
 // How many operations wait for the handles that are reported, report by report; None where that is no `usize`.
 #[tactic(auto, using(crate::proofs::Reporting::waiting_drop, crate::proofs::Reporting::drop_end))]
 fn count_waiting(records: &Records, reports: &Reports) -> Option<usize>
-    ensures some { IfSome result (λ n. n ≡ waiting_on records.now reports.now) }
-    ensures none { IfNone result (2 ^ 64 ≤ waiting_on records.now reports.now) }
+    ensures some { IfSome result (λ n. n ≡ waiting_on records.now.records reports.now) }
+    ensures none { IfNone result (2 ^ 64 ≤ waiting_on records.now.records reports.now) }
 {
     let mut count: usize = 0;
     for at in 0..reports.len() {
@@ -70,9 +70,9 @@ fn count_waiting(records: &Records, reports: &Reports) -> Option<usize>
 
 // Treats reports, in order, in memory that was reserved for the tasks that they wake.
 fn treat(records: &mut Records, reports: &Reports, woken: &mut Vec<u64>)
-    requires room { vec_len woken.old + waiting_on records.old reports.now ≤ vec_capacity woken.old }
-    ensures records { records.new ≡ reported_each records.old reports.now }
-    ensures tasks { woken.new.items ≡ woken.old.items ++ woken_each records.old reports.now }
+    requires room { vec_len woken.old + waiting_on records.old.records reports.now ≤ vec_capacity woken.old }
+    ensures records { records.new ≡ record records.old { records = reported_each records.old.records reports.now } }
+    ensures tasks { woken.new.items ≡ woken.old.items ++ woken_each records.old.records reports.now }
 {
     for at in 0..reports.len() {
         let Some(report) = reports.get(at) else {
@@ -84,10 +84,10 @@ fn treat(records: &mut Records, reports: &Reports, woken: &mut Vec<u64>)
 
 // Treats a report, in memory that was reserved for the tasks that it wakes.
 fn treat_one(records: &mut Records, report: Report, woken: &mut Vec<u64>)
-    requires { vec_len woken.old + length (io_at records.old report.key).waiting ≤ vec_capacity woken.old }
-    ensures records { records.new ≡ reported records.old report }
-    ensures tasks { woken.new.items ≡ woken.old.items ++ woken_by records.old report }
-    ensures len { vec_len woken.new ≡ vec_len woken.old + length (woken_by records.old report) }
+    requires { vec_len woken.old + length (io_at records.old.records report.key).waiting ≤ vec_capacity woken.old }
+    ensures records { records.new ≡ record records.old { records = reported records.old.records report } }
+    ensures tasks { woken.new.items ≡ woken.old.items ++ woken_by records.old.records report }
+    ensures len { vec_len woken.new ≡ vec_len woken.old + length (woken_by records.old.records report) }
     ensures capacity { vec_capacity woken.old ≤ vec_capacity woken.new }
 {
     records.report_into(report.key as u64, report.ready, woken);

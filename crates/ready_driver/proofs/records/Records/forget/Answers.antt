@@ -1,6 +1,6 @@
 use Rattle.std.proofs.Common.{option_map, unwrap_or, sym, ◌∙◌, ap}
 use Rattle.ready_driver.specs.ScheduledIo.{waiter_of, forgotten}
-use Rattle.ready_driver.specs.Records.{quiet, with_io, kept_of}
+use Rattle.ready_driver.specs.Records.{quiet, with_io, holdings_of}
 use Rattle.ready_driver.proofs.Kept.{found-at, unfound-at, written-record, unchanged-record}
 use Rattle.ready_driver.proofs.records.Records.forget.Goals as goal
 
@@ -14,7 +14,9 @@ pub returns-clause-rest : goal.returns-clause-rest
 returns-clause-rest c =
     written-record c.self.inside.handles _ _ c.self.view_is _ c.args.h c.in-Some.one.now _
     (with_io (λ io. record io { waiting = forgotten io.waiting c.args.serial }))
-    c.in-Some.ensures.value (ap (λ io. record c.in-Some.one.now { io = io }) c.forget.ensures.rest) (c.get_mut.follows.holds _)
+    c.in-Some.ensures.value
+    (ap (λ io. record c.in-Some.one.now { kept = record c.in-Some.one.now.kept { io = io } }) c.forget.ensures.rest)
+    (c.get_mut.follows.holds _)
 
 pub returns-in_default-clause-task : goal.returns-in_default-clause-task
 returns-in_default-clause-task c =
@@ -23,7 +25,7 @@ returns-in_default-clause-task c =
 
 pub returns-in_default-clause-rest : goal.returns-in_default-clause-rest
 returns-in_default-clause-rest c =
-    ap (λ m. kept_of m.entries c.self.inside.reserved) c.get_mut.follows.holds-at-none ∙ c.self.view_is
+    ap (λ m. holdings_of m.entries c.self.inside.reserved) c.get_mut.follows.holds-at-none ∙ c.self.view_is
     ∙ unchanged-record c.self.inside.handles _ _ c.self.view_is c.args.h
     (with_io (λ io. record io { waiting = forgotten io.waiting c.args.serial }))
     c.in_default.ensures.value

@@ -8,7 +8,7 @@ use Rattle.ready_driver.specs.Calling.{CallsOnce}
 use Rattle.ready_driver.specs.Ready.{meets, mask_of}
 use Rattle.ready_driver.specs.ScheduledIo.{Scheduled, entry_of}
 use Rattle.ready_driver.specs.declared.records.Record.{Record}
-use Rattle.ready_driver.specs.Records.{quiet, kept_of, with_io}
+use Rattle.ready_driver.specs.Records.{quiet, Holdings, holdings_of, with_io}
 use Rattle.ready_driver.proofs.Bearing.{keeps-written, keeps-written-due, keeps-unwritten}
 use Rattle.ready_driver.proofs.Kept.{found-at, unfound-at, written-record, same-record}
 use Rattle.ready_driver.proofs.Recorded.{none-meet, leaves-found, leaves-unfound}
@@ -41,13 +41,19 @@ returns-clause-calls g c =
 pub returns-clause-leaves : goal.returns-clause-leaves
 returns-clause-leaves g c =
     let one = c.in-Some.one.now in
-    leaves-found _ c.args.h one (entry_of (number_of c.args.op) c.args.task c.args.dir) _ c.poll_op.new.self c.poll_op.result
+    leaves-found _ c.args.h one.kept (entry_of (number_of c.args.op) c.args.task c.args.dir) _ c.poll_op.new.self c.poll_op.result
     (found-at c.self.inside.handles _ _ c.self.view_is c.args.h one c.in-Some.ensures.value)
-    (λ f now. written-record c.self.inside.handles _ _ c.self.view_is _ c.args.h one _ (with_io f) c.in-Some.ensures.value
-    (ap (λ io. record one { io = io }) now) (c.get_mut.follows.holds _))
-    (λ now. same-record c.self.inside.handles _ _ c.self.view_is _ c.args.h one _ c.in-Some.ensures.value
-    (ap (λ io. record one { io = io }) now) (c.get_mut.follows.holds _))
+    (λ f now. ap (λ (a : Holdings). a.records) (written-record c.self.inside.handles _ _ c.self.view_is _ c.args.h one _ (with_io f)
+    c.in-Some.ensures.value (ap (λ io. record one { kept = record one.kept { io = io } }) now) (c.get_mut.follows.holds _)))
+    (λ now. ap (λ (a : Holdings). a.records) (same-record c.self.inside.handles _ _ c.self.view_is _ c.args.h one _ c.in-Some.ensures.value
+    (ap (λ io. record one { kept = record one.kept { io = io } }) now) (c.get_mut.follows.holds _)))
     c.poll_op.ensures.leaves
+
+pub returns-clause-table : goal.returns-clause-table
+returns-clause-table g c =
+    let one = c.in-Some.one.now in
+    ap (λ (a : Holdings). a.table) (written-record c.self.inside.handles _ _ c.self.view_is _ c.args.h one _
+    (with_io (λ old. c.poll_op.new.self)) c.in-Some.ensures.value refl (c.get_mut.follows.holds _))
 
 pub returns-clause-shown : goal.returns-clause-shown
 returns-clause-shown g c = λ memory awaited. (
@@ -55,14 +61,14 @@ returns-clause-shown g c = λ memory awaited. (
     let view = g.I.NonBlock.view in
     let slot = get c.args.ops.now.slots.values c.args.op.key in
     let there = found-at c.self.inside.handles _ _ c.self.view_is c.args.h one c.in-Some.ensures.value in
-    let written = written-record c.self.inside.handles _ _ c.self.view_is _ c.args.h one _ (with_io (λ old. c.poll_op.new.self))
-    c.in-Some.ensures.value refl (c.get_mut.follows.holds _) in
+    let written = ap (λ (a : Holdings). a.records) (written-record c.self.inside.handles _ _ c.self.view_is _ c.args.h one _
+    (with_io (λ old. c.poll_op.new.self)) c.in-Some.ensures.value refl (c.get_mut.follows.holds _)) in
     elim (c.poll_op.ensures.bits memory) [
       | inl same ↦
-          keeps-written (view c.args.io.now) (view c.poll_op.new.io) c.args.self.now _ c.args.h one c.poll_op.new.self there written
-          (c.poll_op.ensures.shown memory) same
+          keeps-written (view c.args.io.now) (view c.poll_op.new.io) c.args.self.now.records _ c.args.h one.kept c.poll_op.new.self there
+          written (c.poll_op.ensures.shown memory) same
       | inr due ↦
-          keeps-written-due (view c.args.io.now) (view c.poll_op.new.io) c.args.self.now _ c.args.h c.poll_op.new.self written
+          keeps-written-due (view c.args.io.now) (view c.poll_op.new.io) c.args.self.now.records _ c.args.h c.poll_op.new.self written
           (c.poll_op.ensures.shown memory) (due c.args.h (slot-named slot c.args.h c.args.dir awaited))
     ])
 
@@ -91,9 +97,16 @@ pub returns-in_default-clause-leaves : goal.returns-in_default-clause-leaves
 returns-in_default-clause-leaves g c =
     leaves-unfound g.row.B.Denot _ c.args.h (entry_of (number_of c.args.op) c.args.task c.args.dir) _ c.args.op
     (unfound-at c.self.inside.handles _ _ c.self.view_is c.args.h c.in_default.ensures.value)
-    (ap (λ m. kept_of m.entries c.self.inside.reserved) c.get_mut.follows.holds-at-none ∙ c.self.view_is)
+    (ap (λ m. (holdings_of m.entries c.self.inside.reserved).records) c.get_mut.follows.holds-at-none
+    ∙ ap (λ (a : Holdings). a.records) c.self.view_is)
+
+pub returns-in_default-clause-table : goal.returns-in_default-clause-table
+returns-in_default-clause-table g c =
+    ap (λ m. (holdings_of m.entries c.self.inside.reserved).table) c.get_mut.follows.holds-at-none
+    ∙ ap (λ (a : Holdings). a.table) c.self.view_is
 
 pub returns-in_default-clause-shown : goal.returns-in_default-clause-shown
 returns-in_default-clause-shown g c = λ memory awaited.
-    keeps-unwritten (g.I.NonBlock.view c.args.io.now) c.args.self.now _
-    (ap (λ m. kept_of m.entries c.self.inside.reserved) c.get_mut.follows.holds-at-none ∙ c.self.view_is)
+    keeps-unwritten (g.I.NonBlock.view c.args.io.now) c.args.self.now.records _
+    (ap (λ m. (holdings_of m.entries c.self.inside.reserved).records) c.get_mut.follows.holds-at-none
+    ∙ ap (λ (a : Holdings). a.records) c.self.view_is)

@@ -1,7 +1,7 @@
 use Rattle.std.proofs.Common.{option_map, unwrap_or, sym, ◌∙◌, ap}
 use Rattle.std.specs.Prelude.{bit_or}
 use Rattle.ready_driver.specs.ScheduledIo.{Scheduled, taken, left, tasks_of}
-use Rattle.ready_driver.specs.Records.{quiet, with_io, kept_of}
+use Rattle.ready_driver.specs.Records.{quiet, with_io, holdings_of}
 use Rattle.ready_driver.proofs.Kept.{found-at, unfound-at, written-record, unchanged-record}
 use Rattle.ready_driver.proofs.records.Records.report.Goals as goal
 
@@ -15,7 +15,7 @@ pub returns-clause-rest : goal.returns-clause-rest
 returns-clause-rest c =
     written-record c.self.inside.handles _ _ c.self.view_is _ c.args.h c.in-Some.one.now _
     (with_io (λ io. record { ready = bit_or io.ready c.args.ready; waiting = left c.args.ready io.waiting })) c.in-Some.ensures.value
-    (ap (λ io. record c.in-Some.one.now { io = io }) (c.wake.ensures.rest ∙ ap
+    (ap (λ io. record c.in-Some.one.now { kept = record c.in-Some.one.now.kept { io = io } }) (c.wake.ensures.rest ∙ ap
     (λ (io : Scheduled). record io { waiting = left c.args.ready io.waiting }) c.set_readiness.ensures))
     (c.get_mut.follows.holds _)
 
@@ -27,6 +27,6 @@ returns-in_default-clause-tasks c =
 
 pub returns-in_default-clause-rest : goal.returns-in_default-clause-rest
 returns-in_default-clause-rest c =
-    ap (λ m. kept_of m.entries c.self.inside.reserved) c.get_mut.follows.holds-at-none ∙ c.self.view_is
+    ap (λ m. holdings_of m.entries c.self.inside.reserved) c.get_mut.follows.holds-at-none ∙ c.self.view_is
     ∙ unchanged-record c.self.inside.handles _ _ c.self.view_is c.args.h
     (with_io (λ io. record { ready = bit_or io.ready c.args.ready; waiting = left c.args.ready io.waiting })) c.in_default.ensures.value

@@ -1,5 +1,5 @@
 use Rattle.std.proofs.Common.{true, refl, ◌∙◌, ap}
-use Rattle.ready_driver.specs.Records.{with_registered, kept_of}
+use Rattle.ready_driver.specs.Records.{with_registered, holdings_of}
 use Rattle.ready_driver.proofs.Kept.{written-record, unchanged-record}
 use Rattle.ready_driver.proofs.records.Records.set_registered.Goals as goal
 
@@ -10,5 +10,5 @@ returns c =
     (c.get_mut.follows.holds _)
 
 pub returns-in_default : goal.returns-in_default
-returns-in_default c = ap (λ m. kept_of m.entries c.self.inside.reserved) c.get_mut.follows.holds-at-none ∙ c.self.view_is
+returns-in_default c = ap (λ m. holdings_of m.entries c.self.inside.reserved) c.get_mut.follows.holds-at-none ∙ c.self.view_is
     ∙ unchanged-record c.self.inside.handles _ _ c.self.view_is c.args.h (with_registered true) c.in_default.ensures.value

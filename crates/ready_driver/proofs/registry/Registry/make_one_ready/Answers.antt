@@ -1,5 +1,5 @@
 use Rattle.std.proofs.Common.{◌≡◌, true, sym, ◌∙◌, subst}
-use Rattle.ready_driver.specs.Records.{is_registered, with_registered}
+use Rattle.ready_driver.specs.Records.{Holdings, is_registered, with_registered}
 use Rattle.ready_driver.specs.Registry.{Handling, AreRecorded}
 use Rattle.ready_driver.proofs.Registering.{recorded-changed}
 use Rattle.ready_driver.proofs.Still.{ready-already}
@@ -13,5 +13,5 @@ returns-then-registered-clause-ok g c =
 
 pub invariant_of-self : goal.invariant_of-self
 invariant_of-self g c =
-    subst (λ r. AreRecorded c.self.inside.table r) (sym c.set_registered.ensures)
-    (recorded-changed c.self.inside.table c.self.inside.records c.self.invariant c.args.h (with_registered true))
+    subst (λ (a : Holdings). AreRecorded a.table a.records) (sym c.set_registered.ensures)
+    (recorded-changed c.self.inside.records.table c.self.inside.records.records c.self.invariant c.args.h (with_registered true))

@@ -1,7 +1,9 @@
 use Rattle.std.proofs.Common.{ap}
+use Rattle.ready_driver.specs.Records.{Holdings}
 use Rattle.ready_driver.proofs.Registering.{recorded-none}
 use Rattle.ready_driver.proofs.registry.Registry.over.Goals as goal
 
 pub invariant_of-result : goal.invariant_of-result
 invariant_of-result g c =
-    recorded-none c.new.result c.new-2.result (ap (λ t. t.holders) c.new.ensures) (ap (λ k. k.handles) c.new-2.ensures)
+    recorded-none c.new.result.table c.new.result.records (ap (λ (a : Holdings). a.table.holders) c.new.ensures)
+    (ap (λ (a : Holdings). a.records.handles) c.new.ensures)

@@ -1,5 +1,5 @@
-use Rattle.std.proofs.Common.{subst}
-use Rattle.ready_driver.specs.Registry.{Handling}
+use Rattle.std.proofs.Common.{sym, subst}
+use Rattle.ready_driver.specs.Registry.{Handling, AreRecorded}
 use Rattle.std.specs.FinMap.{get}
 use Rattle.ready_driver.specs.Awaits.{IsWorldUnmet, PollsUnless}
 use Rattle.ready_driver.specs.Polling.{PartsStand}
@@ -9,8 +9,9 @@ use Rattle.ready_driver.proofs.registry.Registry.poll_op.Goals as goal
 
 pub invariant_of-self : goal.invariant_of-self
 invariant_of-self g c =
-    recorded-leaves c.self.inside.table _ c.self.inside.records c.args.op.number c.args.task c.poll_op.new.records c.poll_op.result
-    c.self.invariant c.poll_op.ensures.leaves
+    subst (λ t. AreRecorded t c.poll_op.new.records.records) (sym c.poll_op.ensures.table)
+    (recorded-leaves c.self.inside.records.table _ c.self.inside.records.records c.args.op.number c.args.task c.poll_op.new.records.records
+    c.poll_op.result c.self.invariant c.poll_op.ensures.leaves)
 
 pub returns-clause-exact : goal.returns-clause-exact
 returns-clause-exact g c = λ memory reported D handles parts.

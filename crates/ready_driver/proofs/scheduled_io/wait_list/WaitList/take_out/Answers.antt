@@ -34,4 +34,5 @@ squeeze-requires-clause-index c = λ apart.
     let there = subst (λ xs. IsPlace xs c.args.serial c.in-Some.at c.in-Some.waiter) c.deref.ensures.value c.in-Some.ensures.some in
     let once = subst (λ (l : Line). IsOnceEach l.waiters) (sym c.self.view_is) c.requires in
     indexed_gap c.self.inside.places c.leave.new.places es ys c.in-Some.at c.args.serial c.in-Some.waiter (c.self.invariant.2 apart) refl
-    there (away_gap es ys c.args.serial c.in-Some.at c.in-Some.waiter refl there once) (c.leave.ensures.gone apart) (c.leave.ensures.len apart)
+    there (away_gap es ys c.args.serial c.in-Some.at c.in-Some.waiter refl there once) (c.leave.ensures.gone apart)
+    (c.leave.ensures.len apart)
