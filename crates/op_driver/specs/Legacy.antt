@@ -5,6 +5,7 @@ use Rattle.rent_buf.specs.Buffer.{Buffer}
 use Rattle.rent_buf.specs.Parts.{Parts}
 use Rattle.rent_buf.specs.declared.fault.OutOfMemory.{OutOfMemory}
 use Rattle.ring_core.specs.declared.request.Request.{Request}
+use Rattle.ring_core.specs.Lists.{has_number}
 use Rattle.handle_core.specs.declared.table.Released.{Released}
 use Rattle.handle_core.specs.declared.table.Released.TheVariants.{Last}
 use Rattle.handle_core.specs.Table.{holders_at, without_user}
@@ -23,7 +24,8 @@ use Rattle.ready_driver.specs.LegacyCalls.{JoinsFor, SubmitRefused, waiting_task
 use Rattle.ready_driver.specs.LegacyPolls.{EndsFor}
 use Rattle.ready_driver.specs.LegacyState.{LegacyState, SameOps, ops_in}
 use Rattle.ready_driver.specs.Named.{PollsSlotFor, canceled_slots}
-use Rattle.ready_driver.specs.Registry.{LetsGo, unheld_if}
+use Rattle.ready_driver.specs.Others.{KeepsOthers}
+use Rattle.ready_driver.specs.Registry.{AreRecorded, LetsGo, is_known, unheld_if}
 
 -- A submission under no group: the handles that its request names are registered, and the new operation holds them. One that is refused
 -- says why, and what it left.
@@ -39,7 +41,8 @@ LegacyJoins view tells memory old new request group (Ok submitted) = JoinsFor vi
 LegacyJoins view tells memory old new request group (Err refused) = SubmitRefused view tells memory request old new refused
 
 -- A poll: what it did to the slot at the token's key, to handles and to groups, and which call it made; when it is pending, and when it
--- ends with an error.
+-- ends with an error. What the other operations wait for stays, and so does what the next turn is asked to name. Behind it only handles
+-- that somebody holds have records, and somebody holds each handle that an operation names.
 pub record LegacyPolls {I B : Type 0} (files : I → ℕ → Bool) (buffer : B → Buffer) (called : Called I) (view : I → IoView)
     (tells memory : Bool) (old new : LegacyState I B) (op : Token) (task : ℕ) (result : Result (PollOp B) (OutOfMemory × Token))
     : Type 0 where
@@ -48,6 +51,10 @@ pub record LegacyPolls {I B : Type 0} (files : I → ℕ → Bool) (buffer : B �
   pub blocks : BlocksUnless (IsSlotUnmet old.handling.records (map.get old.slots.values op.key)) (view old.handling.io)
       (view new.handling.io) result
   pub fails : FailsFor view old new op result
+  pub others : KeepsOthers old.handling new.handling op.number
+  pub asked : new.asked ≡ old.asked
+  pub recorded : AreRecorded new.handling.table new.handling.records
+  pub held : (key h : ℕ) → has_number h (named_in (map.get new.slots.values key)) ≡ true → is_known new.handling.table h ≡ true
 
 -- A drop: its operation is gone, with its slot. It waits no longer, lets go of each handle that it names, and is no member of a group.
 pub record LegacyDrops {I B : Type 0} (view : I → IoView) (tells memory : Bool) (old new : LegacyState I B) (op : Token) : Type 0 where

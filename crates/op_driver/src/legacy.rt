@@ -84,7 +84,9 @@ impl<I: NonBlock, B: IoBufMut + Drop> OpDriver<B> for LegacyDriver<I, B> {
     }
 
     fn poll_op(&mut self, op: Op, task: u64) -> Result<PollOp<B>, (OutOfMemory, Op)> {
-        self.poll_op(op, task)
+        let answer = self.poll_op(op, task);
+        self.given();
+        answer
     }
 
     fn drop_op(&mut self, op: Op) {
