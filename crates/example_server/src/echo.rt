@@ -1,20 +1,19 @@
-// The echo server: what comes on a connection goes back on it. A connection is one job at a time, a read or a send, each with a deadline.
+// The echo server: what comes on a connection goes back on it. A connection is one job, whose deadline is put off as it does something.
 use crate::clients::FAILED;
-use crate::jobs::{Asked, Ended, Jobs};
+use crate::idle::Idle;
+use crate::jobs::{Ended, Jobs};
+use crate::serving::{Asked, SIZE, Served, Serving, Work};
 use anyhow::Result;
 use handle_core::SharedFd;
-use op_job::OpEnd;
+use op_job::JobEnd;
 use ready_driver::{LegacyDriver, Sockets};
 use rent_buf::{OutOfMemory, Rent};
-use ring_core::{CANCELED, Outcome, Request};
+use ring_core::Request;
 use std::alloc::Global;
 use std::sync::Wait;
 use std::sync::ledger::Ledger;
 use std::time::Clock;
 use wake_core::Sleeper;
-
-// How many bytes a buffer takes.
-const SIZE: usize = 4096;
 
 // How many milliseconds a round waits at most, and an accept that failed for the next one.
 const TICK: u64 = 100;
@@ -22,7 +21,7 @@ const TICK: u64 = 100;
 /// What a server takes.
 #[derive(Clone, Copy)]
 pub struct Limits {
-    /// For how many milliseconds a connection may wait for a read or a send.
+    /// For how many milliseconds a connection may do nothing.
     pub idle: u64,
     /// How many connections may be open.
     pub most: usize,
@@ -44,14 +43,15 @@ pub struct Echo<I: Sockets> {
     jobs: Jobs<I>,
     listener: SharedFd,
     limits: Limits,
+    idle: Idle,
     counts: Counts,
     open: usize,
     // How many threads have not yet said that they are done.
     busy: u64,
     // When the last of them was.
     over: Option<u64>,
-    // A job accepts; and when one may next, if none does.
-    accepts: bool,
+    // The task that accepts; and when one may next, if none does.
+    accepts: Option<u64>,
     next: u64,
     // A job was spawned that no round has polled.
     fresh: bool,
@@ -71,6 +71,7 @@ impl<I: Sockets> Echo<I> {
             jobs: Jobs::over(alloc, driver),
             listener,
             limits,
+            idle: Idle::over(alloc, limits.idle),
             counts: Counts {
                 closed: 0,
                 idle: 0,
@@ -79,7 +80,7 @@ impl<I: Sockets> Echo<I> {
             open: 0,
             busy,
             over: None,
-            accepts: false,
+            accepts: None,
             next: 0,
             fresh: false,
             alloc,
@@ -100,6 +101,9 @@ impl<I: Sockets> Echo<I> {
         self.fresh = false;
         for (_, end) in round.ended {
             self.follow(end, now);
+        }
+        for task in round.polled {
+            self.put_off(task, now);
         }
         for number in round.sent {
             self.hear(number, now);
@@ -123,50 +127,50 @@ impl<I: Sockets> Echo<I> {
 
     // Accepts, unless a job does so already or no further connection may be open.
     fn accept(&mut self, now: u64) {
-        if self.accepts || self.over.is_some() || self.open >= self.limits.most || now < self.next {
+        if self.accepts.is_some()
+            || self.over.is_some()
+            || self.open >= self.limits.most
+            || now < self.next
+        {
             return;
         }
-        match self.spawn(Request::Accept { fd: self.listener }, None) {
-            Ok(()) => self.accepts = true,
-            Err(_) => self.next = now.saturating_add(TICK),
+        let fd = self.listener;
+        match self.spawn(Request::Accept { fd }, Work::Accepts, fd, None) {
+            Ok(task) => self.accepts = Some(task),
+            Err(_) => self.accept_later(now),
         }
     }
 
-    // What follows a job that ended.
+    // No job accepts for a while.
+    fn accept_later(&mut self, now: u64) {
+        self.accepts = None;
+        self.next = now.saturating_add(TICK);
+    }
+
+    // What follows a job that ended. A connection that is paused goes on.
     fn follow(&mut self, end: Ended, now: u64) {
         match end {
-            OpEnd::Done(done) => self.follow_op(done.request, done.outcome, now),
-            OpEnd::Refused(refused) => self.let_go(refused.request, false, now),
-            OpEnd::NotHeld(request) => self.let_go(request, false, now),
-            OpEnd::Withdrawn(request) => self.let_go(request, true, now),
-        }
-    }
-
-    // What follows an operation. Only an accept makes a handle.
-    fn follow_op(&mut self, request: Asked, outcome: Outcome, now: u64) {
-        match outcome {
-            Outcome::Made(h) => self.begin(SharedFd::new(h), now),
-            Outcome::Count(count) if count > 0 => self.follow_bytes(request, count as usize, now),
-            _ => self.let_go(request, outcome == Outcome::Fail(CANCELED), now),
-        }
-    }
-
-    // What follows an operation that moved bytes: those that came are sent, those that weren't sent are sent next, and then comes a read.
-    fn follow_bytes(&mut self, request: Asked, count: usize, now: u64) {
-        match request {
-            Request::Recv { fd, buf } => self.go_on(fd, Request::Send { fd, buf }, now),
-            Request::Send { fd, buf } => match unsent(buf, count) {
-                Ok(buf) if buf.is_empty() => self.go_on(fd, Request::Recv { fd, buf }, now),
-                Ok(buf) => self.go_on(fd, Request::Send { fd, buf }, now),
-                Err(_) => self.close(fd, false),
+            JobEnd::Ended(served) => self.follow_served(served, now),
+            JobEnd::Paused(request, serving) => match serving.work {
+                Work::Echoes => self.go_on(serving.fd, request, now),
+                Work::Accepts => self.accept_later(now),
             },
-            request => self.let_go(request, false, now),
+        }
+    }
+
+    // What follows an accept or a connection.
+    fn follow_served(&mut self, served: Served, now: u64) {
+        match served {
+            Served::Accepted(fd) => self.begin(fd, now),
+            Served::NotAccepted => self.accept_later(now),
+            Served::Closed(fd) => self.close(fd, false),
+            Served::Idle(fd) => self.close(fd, true),
         }
     }
 
     // A connection was accepted: it is read. One that comes once the server is to end is closed.
     fn begin(&mut self, fd: SharedFd, now: u64) {
-        self.accepts = false;
+        self.accepts = None;
         if self.over.is_some() {
             return self.jobs.close(fd);
         }
@@ -179,26 +183,32 @@ impl<I: Sockets> Echo<I> {
 
     // A connection goes on with a request, until it is idle. If memory runs out, it is closed.
     fn go_on(&mut self, fd: SharedFd, request: Asked, now: u64) {
-        let deadline = now.saturating_add(self.limits.idle);
-        if self.spawn(request, Some(deadline)).is_err() {
-            self.close(fd, false);
+        let deadline = self.idle.deadline(now);
+        match self.spawn(request, Work::Echoes, fd, Some(deadline)) {
+            Ok(_) => {}
+            Err(_) => self.close(fd, false),
         }
     }
 
-    fn spawn(&mut self, request: Asked, deadline: Option<u64>) -> Result<(), OutOfMemory> {
-        self.jobs.spawn(request, deadline)?;
+    fn spawn(
+        &mut self,
+        request: Asked,
+        work: Work,
+        fd: SharedFd,
+        deadline: Option<u64>,
+    ) -> Result<u64, OutOfMemory> {
+        let task = self.jobs.spawn(request, Serving { work, fd }, deadline)?;
         self.fresh = true;
-        Ok(())
+        Ok(task)
     }
 
-    // Nothing follows a request: its connection is closed. An accept is made again later.
-    fn let_go(&mut self, request: Asked, idle: bool, now: u64) {
-        match request {
-            Request::Recv { fd, buf: _ } | Request::Send { fd, buf: _ } => self.close(fd, idle),
-            _ => {
-                self.accepts = false;
-                self.next = now.saturating_add(TICK);
-            }
+    // A job was polled: if it is a connection's, that is idle later. Without memory it keeps the deadline that it has.
+    fn put_off(&mut self, task: u64, now: u64) {
+        if self.accepts == Some(task) || !self.idle.is_due(task, now) {
+            return;
+        }
+        if self.jobs.put_off(task, self.idle.deadline(now)).is_ok() {
+            self.idle.put_off(task);
         }
     }
 
@@ -219,6 +229,7 @@ impl<I: Sockets> Echo<I> {
             jobs,
             listener: _,
             limits: _,
+            idle: _,
             counts,
             open: _,
             busy: _,
@@ -231,17 +242,4 @@ impl<I: Sockets> Echo<I> {
         jobs.end();
         counts
     }
-}
-
-// A buffer without its first bytes, which were sent.
-fn unsent(buf: Rent, count: usize) -> Result<Rent, OutOfMemory> {
-    let mut buf = buf;
-    if count >= buf.len() {
-        buf.clear();
-        return Ok(buf);
-    }
-    let mut bytes = buf.into_vec();
-    bytes.drain(..count.min(bytes.len()));
-    let total = bytes.len().max(SIZE);
-    Rent::from_vec(bytes, total).map_err(|refused| refused.0)
 }

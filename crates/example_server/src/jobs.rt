@@ -1,12 +1,12 @@
 // The executor of the server. That its jobs are sound over their driver is kept by the type, so no call of it has a condition.
+use crate::serving::{Asked, Served, Serving};
 use anyhow::{Result, bail};
-use core_exec::Exec;
+use core_exec::{Exec, Ran};
 use driver_core::Driver as _;
 use handle_core::SharedFd;
-use op_job::{OpEnd, OpExec, OpJob, abandon_all, park};
+use op_job::{JobEnd, OpExec, OpJob, abandon_all, park};
 use ready_driver::{LegacyDriver, Sockets};
-use rent_buf::{OutOfMemory, Rent, VecBuf};
-use ring_core::Request;
+use rent_buf::{OutOfMemory, Rent};
 use std::alloc::Global;
 use std::marker::Model;
 use std::sync::Wait;
@@ -14,24 +14,23 @@ use std::sync::ledger::Ledger;
 use std::time::Clock;
 use wake_core::Sleeper;
 
-/// A request with a buffer of a stated total.
-pub type Asked = Request<Rent, VecBuf>;
-
 /// How a job ended.
-pub type Ended = OpEnd<Rent>;
+pub type Ended = JobEnd<Rent, Serving, Served>;
 
 /// What a round gave.
 #[derive(Drop)]
 pub struct Round {
     /// The jobs that ended, each with its task.
     pub ended: Vec<(u64, Ended)>,
+    /// The tasks that were polled.
+    pub polled: Vec<u64>,
     /// The numbers that other threads sent.
     pub sent: Vec<u64>,
 }
 
-/// Jobs over sockets: each is one operation.
+/// Jobs over sockets.
 pub struct Jobs<I: Sockets> {
-    exec: OpExec<LegacyDriver<I, Rent>, Rent>,
+    exec: OpExec<LegacyDriver<I, Rent>, Rent, Serving>,
 }
 
 impl<I: Sockets> Model for Jobs<I> {
@@ -54,23 +53,33 @@ impl<I: Sockets> Jobs<I> {
         }
     }
 
-    /// Spawns a job of a request, with a moment at which it is canceled, if it has one.
-    pub fn spawn(&mut self, request: Asked, deadline: Option<u64>) -> Result<(), OutOfMemory> {
+    /// Spawns a job that begins with a request, with a moment at which it is canceled, if it has one. Answers its task.
+    pub fn spawn(
+        &mut self,
+        request: Asked,
+        serving: Serving,
+        deadline: Option<u64>,
+    ) -> Result<u64, OutOfMemory> {
         if self.exec.spawned() >= 1 << 62 {
             return Err(OutOfMemory);
         }
-        let job = OpJob::new(request);
+        let job = OpJob::following(request, serving);
         let spawned = match deadline {
             Some(at) => self.exec.spawn_until(job, at),
             None => self.exec.spawn(job),
         };
         match spawned {
-            Ok(_) => Ok(()),
+            Ok(task) => Ok(task),
             Err((why, job)) => {
                 job.abandon(&mut self.exec.driver);
                 Err(why)
             }
         }
+    }
+
+    /// An unfinished job is canceled at this moment, and not at that which it had.
+    pub fn put_off(&mut self, task: u64, deadline: u64) -> Result<(), OutOfMemory> {
+        self.exec.set_deadline(task, Some(deadline))
     }
 
     /// Waits for sockets or another thread, so many milliseconds at most, and polls the jobs that are ready.
@@ -90,7 +99,12 @@ impl<I: Sockets> Jobs<I> {
         if let Some(why) = parked.turned.stop {
             return Err(why.into());
         }
-        let _ = ran?;
+        let Ran {
+            polled,
+            canceled: _,
+            done: _,
+            stopped: _,
+        } = ran?;
         let mut sent = Vec::new(alloc);
         for waker in parked.remote.first.as_slice() {
             sent.push(waker.task)?;
@@ -99,7 +113,11 @@ impl<I: Sockets> Jobs<I> {
             sent.push(waker.task)?;
         }
         let ended = self.exec.take_done()?;
-        Ok(Round { ended, sent })
+        Ok(Round {
+            ended,
+            polled,
+            sent,
+        })
     }
 
     /// Closes a handle, if the user holds it.

@@ -4,9 +4,11 @@
 
 mod clients;
 mod echo;
+mod idle;
 mod input;
 mod jobs;
 mod serve;
+mod serving;
 
 use anyhow::{Result, bail};
 use clients::{CLIENTS, Clients};

@@ -28,7 +28,7 @@ module _ {B : Type 0} where
       → ApartStates {B = B} (Waiting op) state → FitsState new state
   dropped_fits old new op drops given (Unsent request) fits apart = tt
   dropped_fits old new op drops given (Waiting other) fits apart =
-      ((drops other).1 (fits.0, λ same. apart (sym same)), let below = fits.1 in omega (arith, below, given))
+      ((drops other).1 (fits.0, λ same. apart (sym (ap number_of same))), let below = fits.1 in omega (arith, below, given))
 
   -- A poll keeps each state that waits for another.
   pub polled_others : (old new : Ops B) (op : Op) (result : Result (PollOp B) (OutOfMemory × Op)) → TokensFor old new op result
@@ -48,11 +48,10 @@ module _ {B : Type 0} where
       → ApartStates {B = B} (Waiting op) other
   submitted_apart old new op adds (Unsent request) fits = tt
   submitted_apart old new op adds (Waiting other) fits = λ same.
-      let below = fits.1 in let number = adds.number in let e : number_of op ≡ number_of other = ap number_of same in
-      absurd (omega (arith, below, number, e))
+      let below = fits.1 in let number = adds.number in absurd (omega (arith, below, number, same))
 
 -- Jobs that are sound over a driver are so behind a call that keeps every token.
-pub kept_sound : {D B : Type 0} (ops : D → Ops B) (old new : D) (jobs : ℕ → Option (OpJob B)) → KeepsTokens (ops old) (ops new)
+pub kept_sound : {D B F : Type 0} (ops : D → Ops B) (old new : D) (jobs : ℕ → Option (OpJob B F)) → KeepsTokens (ops old) (ops new)
     → (ops new).given ≡ (ops old).given → AreSound (FitsOps ops) ApartOps old jobs → AreSound (FitsOps ops) ApartOps new jobs
 kept_sound ops old new jobs keeps given sound = record {
   all_fit = λ t job is. kept_fits (ops old) (ops new) keeps given job.state (sound.all_fit t job is);
@@ -67,14 +66,14 @@ same_tokens old new same op = (
 )
 
 -- Over a readiness driver they are so behind a call that leaves each slot.
-pub slots_sound : {I B : Type 0} (old new : LegacyState I B) (jobs : ℕ → Option (OpJob B)) → new.slots ≡ old.slots
+pub slots_sound : {I B F : Type 0} (old new : LegacyState I B) (jobs : ℕ → Option (OpJob B F)) → new.slots ≡ old.slots
     → new.given ≡ old.given → AreSound (FitsOps ops_in) ApartOps old jobs → AreSound (FitsOps ops_in) ApartOps new jobs
 slots_sound old new jobs slots given sound = kept_sound ops_in old new jobs (same_tokens old new (ap (λ s. s.values) slots)) given sound
 
 -- Jobs are sound behind the drop of one that was apart from them.
-pub abandoned_sound : {D B : Type 0} (ops : D → Ops B) (old new : D) (jobs : ℕ → Option (OpJob B)) (task : ℕ) (job : OpJob B)
+pub abandoned_sound : {D B F : Type 0} (ops : D → Ops B) (old new : D) (jobs : ℕ → Option (OpJob B F)) (task : ℕ) (job : OpJob B F)
     → AreSound (FitsOps ops) ApartOps old jobs → IsApart (FitsOps ops) ApartOps old jobs task job
-    → ((other : OpJob B) → HoldsOps ops old other → ApartOps job other → HoldsOps ops new other) → AreSound (FitsOps ops) ApartOps new jobs
+    → ((other : OpJob B F) → HoldsOps ops old other → ApartOps job other → HoldsOps ops new other) → AreSound (FitsOps ops) ApartOps new jobs
 abandoned_sound ops old new jobs task job sound apart others = record {
   all_fit = λ t other is. others other (sound.all_fit t other is) (apart.from t other is);
   all_apart = sound.all_apart;

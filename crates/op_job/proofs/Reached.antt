@@ -34,6 +34,15 @@ has_in (x ∷ xs) t (suc k, below, at) =
 pub has_behind : (front xs : List ℕ) (t : ℕ) → Contains xs t → has_number t (front ++ xs) ≡ true
 has_behind front xs t has = has_in (front ++ xs) t (Contains-append_right front xs t has)
 
+-- A number that two lists don't have, one behind the other, the second one doesn't have.
+pub unnamed_behind : (front xs : List ℕ) (t : ℕ) → has_number t (front ++ xs) ≡ false → has_number t xs ≡ false
+unnamed_behind [] xs t none = none
+unnamed_behind (x ∷ front) xs t none = unnamed_behind front xs t (by (t == x) (has_number t (front ++ xs)) none)
+  where
+    by : (a b : Bool) → (a || b) ≡ false → b ≡ false
+    by false b none = none
+    by true b none = (let f : ⊥ = cc in absurd f)
+
 -- A task that is named is marked, if there is one.
 named_mark : {J : Type 0} (now : ℕ) (b : Bool) (x : Option (Task J)) → b ≡ true → IsSome x
     → mark_of (option_map (with_mark (b || is_late now x)) x) ≡ true
@@ -46,15 +55,20 @@ before_or_not a zero = inr (omega arith)
 before_or_not zero (suc b) = inl (omega arith)
 before_or_not (suc a) (suc b) = elim (before_or_not a b) [ inl h ↦ inl (omega (arith, h)) | inr h ↦ inr (omega (arith, h)) ]
 
--- So a turn that reaches the ready tasks reaches it.
-pub reached_named : {J : Type 0} (now : ℕ) (named : List ℕ) (was is : ℕ → Option (Task J)) (polled : List ℕ) (stopped : Option ℕ) (t : ℕ)
-    → Reaches (ready_tasks now named was) is polled stopped → has_number t named ≡ true → IsSome (was t) → IsReached polled stopped t
-reached_named now named was is polled None t reaches has there =
-    inl (reaches.all refl t (named_mark now (has_number t named) (was t) has there))
-reached_named now named was is polled (Some r) t reaches has there = elim (before_or_not t r) [
-  | inl before ↦ inl ((reaches.stop r refl).front t before (named_mark now (has_number t named) (was t) has there))
+-- A turn that reaches the ready tasks reaches each that is marked.
+pub reached_marked : {J : Type 0} (was is : ℕ → Option (Task J)) (polled : List ℕ) (stopped : Option ℕ) (t : ℕ)
+    → Reaches was is polled stopped → mark_of (was t) ≡ true → IsReached polled stopped t
+reached_marked was is polled None t reaches marked = inl (reaches.all refl t marked)
+reached_marked was is polled (Some r) t reaches marked = elim (before_or_not t r) [
+  | inl before ↦ inl ((reaches.stop r refl).front t before marked)
   | inr behind ↦ inr (r, refl, behind)
 ]
+
+-- So it reaches one that is named.
+pub reached_named : {J : Type 0} (now : ℕ) (named : List ℕ) (was is : ℕ → Option (Task J)) (polled : List ℕ) (stopped : Option ℕ) (t : ℕ)
+    → Reaches (ready_tasks now named was) is polled stopped → has_number t named ≡ true → IsSome (was t) → IsReached polled stopped t
+reached_named now named was is polled stopped t reaches has there = reached_marked (ready_tasks now named was) is polled stopped t reaches
+    (named_mark now (has_number t named) (was t) has there)
 
 module _ {I B : Type 0} (view : I → IoView) (tells reporting memory : Bool) (old mid : LegacyState I B) (turned : Turned)
     (turns : LegacyTurns view tells reporting memory old mid turned) where
@@ -77,7 +91,7 @@ module _ {I B : Type 0} (view : I → IoView) (tells reporting memory : Bool) (o
   asked_first (Some why) is does t has = absurd cc
 
   -- Over a world in memory the bits of each handle that somebody holds are those of what it has.
-  shown_then : (stop : Option Stop) → stop ≡ None
+  pub shown_then : (stop : Option Stop) → stop ≡ None
       → TurnsBy view tells reporting memory (turning_in old old.asked) (turning_in mid turns.tasks) stop → IsTrue memory
       → AreKeyed old.handling.table (view old.handling.io).keys
       → AreReported mid.handling.table mid.handling.records (view mid.handling.io).world

@@ -9,16 +9,17 @@ use Rattle.driver_core.specs.declared.op.PollOp.{PollOp}
 use Rattle.driver_core.specs.declared.op.PollOp.TheVariants.{Pending}
 use Rattle.driver_core.specs.declared.op.SubmitError.{SubmitError}
 use Rattle.driver_core.specs.declared.op.Turned.{Turned}
+use Rattle.driver_core.specs.Op.{number_of}
 use Rattle.driver_core.specs.Ops.{Ops}
 use Rattle.op_job.specs.declared.op_job.OpJob.{OpJob}
 use Rattle.op_job.specs.declared.op_job.State.{State}
 use Rattle.op_job.specs.declared.op_job.State.TheVariants.{Unsent, Waiting}
 use Rattle.op_job.specs.OpJob.{ApartStates, FitsState}
 
--- What the calls of a driver do, as it says it: a submission, a poll, a cancel, and a turn.
+-- What the calls of a driver do, as it says it: a submission, a poll, a cancel, and a turn; and its operations.
 module _ {D B : Type 0} (submits : D → D → Request B Parts → Result Op (SubmitError B) → Type 0)
     (polls : D → D → Op → ℕ → Result (PollOp B) (OutOfMemory × Op) → Type 0) (cancels : D → D → Op → Result Unit OutOfMemory → Type 0)
-    (turns : D → D → Turned → Type 0) where
+    (turns : D → D → Turned → Type 0) (ops : D → Ops B) where
   -- A request was submitted.
   pub record Submission (old new : D) : Type 0 where
     pub request : Request B Parts
@@ -30,14 +31,14 @@ module _ {D B : Type 0} (submits : D → D → Request B Parts → Result Op (Su
     pub other : Op
     pub task : ℕ
     pub result : Result (PollOp B) (OutOfMemory × Op)
-    pub apart : other ≢ op
+    pub apart : number_of other ≢ number_of op
     pub does : polls old new other task result
 
   -- The cancel of another operation was asked for.
   pub record OtherCancel (op : Op) (old new : D) : Type 0 where
     pub other : Op
     pub result : Result Unit OutOfMemory
-    pub apart : other ≢ op
+    pub apart : number_of other ≢ number_of op
     pub does : cancels old new other result
 
   -- The driver made a turn that doesn't name the task.
@@ -46,9 +47,11 @@ module _ {D B : Type 0} (submits : D → D → Request B Parts → Result Op (Su
     pub does : turns old new turned
     pub unnamed : has_number task turned.woken ≡ false
 
-  -- A step beside an operation and the task that waits for it.
-  abbrev pub IsBeside : Op → ℕ → D → D → Type 0
-  IsBeside op task old new = Submission old new ⊎ (OtherPoll op old new ⊎ (OtherCancel op old new ⊎ OtherTurn task old new))
+  -- A step beside an operation and the task that waits for it. The driver holds the operation before it and behind it.
+  pub record IsBeside (op : Op) (task : ℕ) (old new : D) : Type 0 where
+    pub held : FitsState (ops old) (Waiting op)
+    pub holds : FitsState (ops new) (Waiting op)
+    pub step : Submission old new ⊎ (OtherPoll op old new ⊎ (OtherCancel op old new ⊎ OtherTurn task old new))
 
   -- Such steps led from a driver to another, by those between, of which the last comes first.
   abbrev pub LedBeside : Op → ℕ → D → List D → D → Type 0
@@ -68,10 +71,10 @@ module _ {D B : Type 0} (submits : D → D → Request B Parts → Result Op (Su
   WaitsState driver task (Unsent request) = ⊥
   WaitsState driver task (Waiting op) = IsAwaited op task driver
 
-  abbrev pub WaitsOps : D → ℕ → OpJob B → Type 0
+  abbrev pub WaitsOps : {F : Type 0} → D → ℕ → OpJob B F → Type 0
   WaitsOps driver task job = WaitsState driver task job.state
 
   -- Each job that waits for another operation than that of a state waits still.
-  abbrev pub KeepsWaiting : (D → Ops B) → D → D → State B → Type 0
-  KeepsWaiting ops old new state = (other : State B) (s : ℕ) → FitsState (ops old) other → ApartStates state other
+  abbrev pub KeepsWaiting : D → D → State B → Type 0
+  KeepsWaiting old new state = (other : State B) (s : ℕ) → FitsState (ops old) other → ApartStates state other
       → WaitsState old s other → WaitsState new s other

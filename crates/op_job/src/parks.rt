@@ -1,13 +1,16 @@
 //! A park of a readiness driver beside a sleeper, and a turn of the executor over it.
 ghost use Rattle.std.specs.Prelude.{◌≡◌, ◌<◌, ◌≤◌, ◌+◌, ◌^◌, ℕ, length, Some, IfOk, OnErr};
+ghost use Rattle.core_exec.specs.Tasks.{AreWaiting};
 ghost use Rattle.core_exec.specs.Turns.{Reaches};
-ghost use Rattle.core_exec.specs.Exec.{IsSound, KeepsPlaces, Stands, TurnsTo, moment_of, ready_of, spawned_of, tasks_of, turns_of};
+ghost use Rattle.core_exec.specs.Exec.{IsSound, KeepsPlaces, NoneForgotten, Stands, TurnsTo, moment_of, ready_of, spawned_of, tasks_of, turns_of};
 ghost use Rattle.exec_wake.specs.Wakes.{named_by};
 ghost use Rattle.ready_driver.specs.LegacyTurns.{DrainsFor, LegacyTurns};
 ghost use Rattle.ready_driver.specs.LegacyState.{ops_in};
+ghost use Rattle.op_job.specs.Kept.{WaitsLegacy, WaitsReady, WakesAll};
 ghost use Rattle.op_job.specs.Met.{MissesNone};
 ghost use Rattle.op_job.specs.OpJob.{ApartOps, FitsOps, cancels_of, no_aim, polls_of};
 
+use crate::follow::Follow;
 use crate::turns::OpExec;
 use core_exec::Ran;
 use driver_core::{Driver as _, Parked};
@@ -21,8 +24,15 @@ use wake_core::Sleeper;
 
 // A park of the driver.
 #[tactic(auto, using(crate::proofs::Frames::slots_sound))]
-fn park_driver<I: NonBlock, B: IoBufMut + Drop, P: Ledger, D: Ledger, T: Wait + Clock>(
-    exec: &mut OpExec<LegacyDriver<I, B>, B>,
+fn park_driver<
+    I: NonBlock,
+    B: IoBufMut + Drop,
+    F: Follow<B>,
+    P: Ledger,
+    D: Ledger,
+    T: Wait + Clock,
+>(
+    exec: &mut OpExec<LegacyDriver<I, B>, B, F>,
     rt: &T,
     sleeper: &mut Sleeper<P, D>,
     millis: u64,
@@ -35,6 +45,9 @@ fn park_driver<I: NonBlock, B: IoBufMut + Drop, P: Ledger, D: Ledger, T: Wait + 
     ensures taken { sleeper.new.taken ≡ (sleeper.old.taken + length result.remote.first) + length result.remote.again }
     ensures drains { DrainsFor result.turned.stop (Some millis) sleeper.old sleeper.new result.remote }
     ensures turns { LegacyTurns I.view I.tells I.reporting I.memory exec.old.driver exec.new.driver result.turned }
+    ensures waits { NoneForgotten (WaitsLegacy I.files B.buffer I.called I.view I.tells I.reporting I.memory) exec.old
+        → (now : ℕ) → AreWaiting (WaitsLegacy I.files B.buffer I.called I.view I.tells I.reporting I.memory) exec.new.driver
+        (ready_of now (named_by result) exec.new) }
 {
     exec.driver.park_timeout(rt, sleeper, millis)
 }
@@ -42,8 +55,8 @@ fn park_driver<I: NonBlock, B: IoBufMut + Drop, P: Ledger, D: Ledger, T: Wait + 
 /// A park of the driver beside a sleeper, which waits so many milliseconds at most, and then a turn of the executor, in which the tasks are
 /// ready whose wakers the sleeper drained, and those that the driver names: what both answer. No waker and no name is lost: if memory runs
 /// out for the lists of the answer, these tasks are marked, and the next turn polls them.
-pub fn park<I: NonBlock, B: IoBufMut + Drop, P: Ledger, D: Ledger, T: Wait + Clock>(
-    exec: &mut OpExec<LegacyDriver<I, B>, B>,
+pub fn park<I: NonBlock, B: IoBufMut + Drop, F: Follow<B>, P: Ledger, D: Ledger, T: Wait + Clock>(
+    exec: &mut OpExec<LegacyDriver<I, B>, B, F>,
     rt: &T,
     sleeper: &mut Sleeper<P, D>,
     now: u64,
@@ -64,6 +77,16 @@ pub fn park<I: NonBlock, B: IoBufMut + Drop, P: Ledger, D: Ledger, T: Wait + Clo
     ensures marked { OnErr result.1 ((t : ℕ) → tasks_of exec.new t ≡ ready_of now (named_by result.0) exec.old t) }
     // It comes to each task whose operation waits in a handle's list and can go on.
     ensures misses { IfOk result.1 (MissesNone I.view I.tells I.reporting I.memory exec.old.driver result.0.turned (tasks_of exec.old)) }
+    // What is so of each task that isn't ready before the park is so behind its turn,
+    ensures waits { NoneForgotten (WaitsLegacy I.files B.buffer I.called I.view I.tells I.reporting I.memory) exec.old
+        → NoneForgotten (WaitsLegacy I.files B.buffer I.called I.view I.tells I.reporting I.memory) exec.new }
+    // and then its operation stands in the list of its handle, of which no bit meets its direction, or the next turn names the task.
+    ensures kept { NoneForgotten (WaitsLegacy I.files B.buffer I.called I.view I.tells I.reporting I.memory) exec.old
+        → NoneForgotten (WaitsReady I.files B.buffer I.called I.view I.tells I.reporting I.memory) exec.new }
+    // The turn came to each other one.
+    ensures wakes { NoneForgotten (WaitsLegacy I.files B.buffer I.called I.view I.tells I.reporting I.memory) exec.old
+        → IfOk result.1 (WakesAll I.files B.buffer I.called I.view I.tells I.reporting I.memory exec.old.driver result.0.turned
+        (tasks_of exec.old)) }
     // The wakers of the answer are those that the sleeper drained, in its order.
     ensures taken { sleeper.new.taken ≡ (sleeper.old.taken + length result.0.remote.first) + length result.0.remote.again }
     ensures drains { DrainsFor result.0.turned.stop (Some millis) sleeper.old sleeper.new result.0.remote }

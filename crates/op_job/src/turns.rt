@@ -6,33 +6,36 @@ ghost use Rattle.core_exec.specs.Exec.{IsSound, KeepsPlaces, NoneForgotten, Stan
 ghost use Rattle.op_job.specs.OpJob.{ApartOps, FitsOps, cancels_of, no_aim, polls_of};
 ghost use Rattle.op_job.specs.Waits.{WaitsOps};
 
-use crate::op_job::{OpEnd, OpJob};
+use crate::follow::Follow;
+use crate::op_job::{JobEnd, OpJob};
 use core_exec::{Exec, Ran};
 use driver_core::Turned;
 use op_driver::OpDriver;
 use rent_buf::{IoBufMut, OutOfMemory};
 
-/// An executor of operations over a driver.
-pub type OpExec<D, B> = Exec<D, OpJob<B>, OpEnd<B>>;
+/// An executor of jobs of operations over a driver.
+pub type OpExec<D, B, F> = Exec<D, OpJob<B, F>, JobEnd<B, F, <F as Follow<B>>::Out>>;
 
 // A turn of the driver.
 #[tactic(auto, using(crate::proofs::Frames::kept_sound, crate::proofs::Waits::turned_waits))]
-fn turn_driver<B: IoBufMut + Drop, D: OpDriver<B>>(exec: &mut OpExec<D, B>) -> Turned
+fn turn_driver<B: IoBufMut + Drop, F: Follow<B>, D: OpDriver<B>>(
+    exec: &mut OpExec<D, B, F>,
+) -> Turned
     requires sound { IsSound (FitsOps D.ops) ApartOps exec.old }
     ensures sound { IsSound (FitsOps D.ops) ApartOps exec.new }
     ensures ready { exec.new.ready ≡ exec.old.ready }
     ensures outputs { exec.new.outputs ≡ exec.old.outputs }
     ensures numbers { (exec.new.spawned ≡ exec.old.spawned) × (exec.new.turns ≡ exec.old.turns) }
     ensures turns { D.turns exec.old.driver exec.new.driver result }
-    ensures waits { NoneForgotten (WaitsOps D.submits D.polls D.cancels D.turns) exec.old
-        → (now : ℕ) → AreWaiting (WaitsOps D.submits D.polls D.cancels D.turns) exec.new.driver (ready_of now result.woken exec.new) }
+    ensures waits { NoneForgotten (WaitsOps D.submits D.polls D.cancels D.turns D.ops) exec.old
+        → (now : ℕ) → AreWaiting (WaitsOps D.submits D.polls D.cancels D.turns D.ops) exec.new.driver (ready_of now result.woken exec.new) }
 {
     exec.driver.turn()
 }
 
 /// A turn of the driver, and then one of the executor, in which the tasks are ready that the driver names: what both answer.
-pub fn turn<B: IoBufMut + Drop, D: OpDriver<B>>(
-    exec: &mut OpExec<D, B>,
+pub fn turn<B: IoBufMut + Drop, F: Follow<B>, D: OpDriver<B>>(
+    exec: &mut OpExec<D, B, F>,
     now: u64,
 ) -> (Turned, Result<Ran, OutOfMemory>)
     requires stands { Stands polls_of cancels_of exec.old }
@@ -50,8 +53,8 @@ pub fn turn<B: IoBufMut + Drop, D: OpDriver<B>>(
     ensures marked { OnErr result.1 ((t : ℕ) → tasks_of exec.new t ≡ ready_of now result.0.woken exec.old t) }
     // Each task that isn't ready in the next turn waits for its operation: since its last poll, which was pending, the driver did nothing
     // but submissions, calls of other operations, and turns that don't name the task.
-    ensures waits { NoneForgotten (WaitsOps D.submits D.polls D.cancels D.turns) exec.old
-        → NoneForgotten (WaitsOps D.submits D.polls D.cancels D.turns) exec.new }
+    ensures waits { NoneForgotten (WaitsOps D.submits D.polls D.cancels D.turns D.ops) exec.old
+        → NoneForgotten (WaitsOps D.submits D.polls D.cancels D.turns D.ops) exec.new }
     // The driver made a turn of its own, behind which it was so.
     ensures driver { (mid : D) × D.turns exec.old.driver mid result.0 }
 {
@@ -62,7 +65,9 @@ pub fn turn<B: IoBufMut + Drop, D: OpDriver<B>>(
 
 // Takes out the lowest unfinished task, if there is one, and drops its operation: whether there was one.
 #[tactic(auto, using(crate::proofs::Frames::abandoned_sound))]
-fn abandon_first<B: IoBufMut + Drop, D: OpDriver<B>>(exec: &mut OpExec<D, B>) -> bool
+fn abandon_first<B: IoBufMut + Drop, F: Follow<B>, D: OpDriver<B>>(
+    exec: &mut OpExec<D, B, F>,
+) -> bool
     requires stands { Stands polls_of cancels_of exec.old }
     requires sound { IsSound (FitsOps D.ops) ApartOps exec.old }
     ensures stands { Stands polls_of cancels_of exec.new }
@@ -80,7 +85,7 @@ fn abandon_first<B: IoBufMut + Drop, D: OpDriver<B>>(exec: &mut OpExec<D, B>) ->
 }
 
 /// Takes out all unfinished tasks, and drops their operations.
-pub fn abandon_all<B: IoBufMut + Drop, D: OpDriver<B>>(exec: &mut OpExec<D, B>)
+pub fn abandon_all<B: IoBufMut + Drop, F: Follow<B>, D: OpDriver<B>>(exec: &mut OpExec<D, B, F>)
     requires stands { Stands polls_of cancels_of exec.old }
     requires sound { IsSound (FitsOps D.ops) ApartOps exec.old }
     ensures stands { Stands polls_of cancels_of exec.new }

@@ -5,7 +5,8 @@ use Rattle.core_exec.specs.Marks.{ready_tasks}
 use Rattle.core_exec.specs.Tasks.{task_at}
 use Rattle.core_exec.specs.Turns.{Reaches}
 use Rattle.exec_wake.specs.Wakes.{drained_in, named_by}
-use Rattle.op_job.proofs.Reached.{has_behind, misses_if}
+use Rattle.op_job.proofs.KeptAll.{all_kept, wakes_if}
+use Rattle.op_job.proofs.Reached.{has_behind, misses_if, unnamed_behind}
 use Rattle.op_job.proofs.parks.park.Goals as goal
 
 -- the driver's turn names each, and the executor's comes to it
@@ -16,6 +17,30 @@ returns-clause-misses g c =
     misses_if g.I.NonBlock.view g.I.NonBlock.tells g.I.NonBlock.reporting g.I.NonBlock.memory c.args.exec.now.driver mid.driver
     parked.turned c.park_driver-parked.ensures.turns c.args.now (named_by parked) (tasks_of c.args.exec.now)
     (tasks_of c.turn_parked-ran.new.exec) c.turn_parked-ran.result (has_behind (drained_in parked) parked.turned.woken)
+    (subst (λ ready. IfOk c.turn_parked-ran.result (λ ran. Reaches (ready_tasks c.args.now (named_by parked) (task_at ready.table))
+    (tasks_of c.turn_parked-ran.new.exec) ran.polled.items ran.stopped)) c.park_driver-parked.ensures.ready
+    c.turn_parked-ran.ensures.reaches)
+
+-- the driver's turn names a task or leaves it waiting, and so does the executor's
+pub returns-clause-waits : goal.returns-clause-waits
+returns-clause-waits g c = λ waiting. c.turn_parked-ran.ensures.waits (c.park_driver-parked.ensures.waits waiting c.args.now)
+
+-- what waits stands in the driver
+pub returns-clause-kept : goal.returns-clause-kept
+returns-clause-kept g c = λ waiting.
+    all_kept g.I.NonBlock.files g.B.IoBufMut.buffer g.I.Calls.called g.I.NonBlock.view g.I.NonBlock.tells g.I.NonBlock.reporting
+    g.I.NonBlock.memory c.turn_parked-ran.new.exec.driver (tasks_of c.turn_parked-ran.new.exec)
+    (c.turn_parked-ran.ensures.waits (c.park_driver-parked.ensures.waits waiting c.args.now))
+
+-- the turn comes to each that is named or marked
+pub returns-clause-wakes : goal.returns-clause-wakes
+returns-clause-wakes g c = λ waiting.
+    let parked = c.park_driver-parked.result in
+    let mid = c.park_driver-parked.new.exec in
+    wakes_if g.I.NonBlock.files g.B.IoBufMut.buffer g.I.Calls.called g.I.NonBlock.view g.I.NonBlock.tells g.I.NonBlock.reporting
+    g.I.NonBlock.memory c.args.now (named_by parked) c.args.exec.now.driver mid.driver parked.turned (tasks_of c.args.exec.now)
+    (tasks_of c.turn_parked-ran.new.exec) c.turn_parked-ran.result c.park_driver-parked.ensures.turns
+    (unnamed_behind (drained_in parked) parked.turned.woken) c.requires.sound.all_fit waiting
     (subst (λ ready. IfOk c.turn_parked-ran.result (λ ran. Reaches (ready_tasks c.args.now (named_by parked) (task_at ready.table))
     (tasks_of c.turn_parked-ran.new.exec) ran.polled.items ran.stopped)) c.park_driver-parked.ensures.ready
     c.turn_parked-ran.ensures.reaches)

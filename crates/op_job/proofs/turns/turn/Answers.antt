@@ -8,6 +8,6 @@ use Rattle.op_job.proofs.turns.turn.Goals as goal
 pub returns-clause-waits : goal.returns-clause-waits
 returns-clause-waits g c = λ waiting.
     c.turn-ran.ensures.waits
-    (subst (λ named. AreWaiting (WaitsOps g.D.OpDriver.submits g.D.OpDriver.polls g.D.OpDriver.cancels g.D.Driver.turns)
+    (subst (λ named. AreWaiting (WaitsOps g.D.OpDriver.submits g.D.OpDriver.polls g.D.OpDriver.cancels g.D.Driver.turns g.D.OpDriver.ops)
     c.turn_driver-turned.new.exec.driver (ready_of c.args.now named c.turn_driver-turned.new.exec)) (sym c.as_slice.ensures)
     (c.turn_driver-turned.ensures.waits waiting c.args.now))
