@@ -1,14 +1,17 @@
--- A job that is pending waits in the list of its pipe.
-use Rattle.std.proofs.Common.{ℕ, ◌≡◌, ◌∙◌, ◌⊎◌, inl, inr, ap, sym, refl, subst, Bool, true, false, Option, Some, None, Ok}
-use Rattle.std.specs.Prelude.{if◌then◌else◌, IsTrue}
+-- A job that is pending is listed, for its pipe.
+use Rattle.std.proofs.Common.{ℕ, ◌≡◌, ◌∙◌, ◌⊎◌, inl, inr, ap, sym, refl, subst, Bool, true, false, true≢false, Option, Some, None, Ok}
+use Rattle.std.specs.Prelude.{if◌then◌else◌, is_some, IsTrue}
 use Rattle.std.specs.FinMap as map
+use Rattle.rent_buf.specs.Counts.{Rose}
 use Rattle.rent_buf.specs.Parts.{Parts}
 use Rattle.rent_buf.specs.Rent.{Rented, buffer_of_rent}
+use Rattle.op_slots.specs.declared.lifecycle.Lifecycle.{Lifecycle}
+use Rattle.op_slots.specs.declared.lifecycle.Lifecycle.TheVariants.{Submitted, Waiting, Ignored, Completed}
+use Rattle.ring_core.specs.declared.request.Outcome.{Outcome}
 use Rattle.ring_core.specs.declared.request.Request.{Request}
 use Rattle.ring_core.specs.declared.request.Request.TheVariants as request
 use Rattle.ring_core.specs.Request.{plain_request}
 use Rattle.driver_core.specs.declared.op.Op.{Op}
-use Rattle.driver_core.specs.declared.op.PollOp.{PollOp}
 use Rattle.driver_core.specs.declared.op.PollOp.TheVariants as polled
 use Rattle.driver_core.specs.declared.operations.calls.CallAnswer.TheVariants.{WouldBlock}
 use Rattle.driver_core.specs.declared.slot.Slot.{Slot}
@@ -17,19 +20,18 @@ use Rattle.op_job.specs.Met.{IsWaiting}
 use Rattle.op_job.proofs.Pending.{pending_leaves}
 use Rattle.ready_driver.specs.declared.ready.Direction.{Direction}
 use Rattle.ready_driver.specs.declared.ready.Direction.TheVariants.{Read, Write}
-use Rattle.ready_driver.specs.Awaits.{LeavesFor, TokensFor, awaits, awaits_if, is_met_at, slot_awaits, unless}
+use Rattle.ready_driver.specs.Awaits.{LeavesFor, awaits, awaits_if, is_met_at, slot_awaits, unless}
 use Rattle.ready_driver.specs.Calling.{Called, CallsOnce, request_in}
 use Rattle.ready_driver.specs.Io.{IoView}
 use Rattle.ready_driver.specs.LegacyPolls.{EndsFor as PollEndsFor}
 use Rattle.ready_driver.specs.LegacyState.{LegacyState, ops_in}
+use Rattle.ready_driver.specs.Named.{IsCompleted, PollsSlotFor}
 use Rattle.ready_driver.specs.Records.{Kept, record_at}
-use Rattle.pipe_job.specs.Awaits.{AwaitsBy, AwaitsPipe, WasFile}
+use Rattle.ready_driver.specs.Registry.{AreRecorded, is_known}
+use Rattle.pipe_job.specs.Awaits.{IsListed}
+use Rattle.pipe_job.specs.Causes.{BlocksFile}
 use Rattle.pipe_job.specs.Course.{MovesOn}
-use Rattle.pipe_job.specs.Steps.{StepFor}
 use Rattle.pipe_job.specs.Waits.{MovesIf}
-use Rattle.pipe_job.specs.declared.step.Wait.TheVariants.{Room, Waiting}
-use Rattle.pipe_job.specs.declared.step.Step.{Step}
-use Rattle.pipe_job.specs.declared.step.Step.TheVariants as step
 use Rattle.pipe_job.proofs.Calls.{Lawful}
 
 -- A request that moves bytes of a pipe waits for a direction of it.
@@ -54,48 +56,72 @@ moves_awaits pipe (request.MkDir path mode) moves = absurd moves
 moves_awaits pipe (request.Rename from to) moves = absurd moves
 moves_awaits pipe (request.Unlink path remove_dir) moves = absurd moves
 
+-- What a request waits for is that of the plain one.
+awaits_plain : (asked : Request Rented Parts) → awaits (plain_request buffer_of_rent asked) ≡ awaits asked
+awaits_plain (request.Recv fd buf) = refl
+awaits_plain (request.Send fd buf) = refl
+awaits_plain (request.ReadVec fd parts) = refl
+awaits_plain (request.WriteVec fd parts) = refl
+awaits_plain (request.RecvMsg fd buf) = refl
+awaits_plain (request.SendMsg fd addr buf) = refl
+awaits_plain (request.Read fd pos buf) = refl
+awaits_plain (request.Write fd pos buf) = refl
+awaits_plain (request.SpliceTo fd to len) = refl
+awaits_plain (request.SpliceFrom from fd len) = refl
+awaits_plain (request.Accept fd) = refl
+awaits_plain (request.Open path flags mode) = refl
+awaits_plain (request.Connect fd addr) = refl
+awaits_plain (request.Fsync fd data_only) = refl
+awaits_plain (request.PollAdd fd true) = refl
+awaits_plain (request.PollAdd fd false) = refl
+awaits_plain (request.MkDir path mode) = refl
+awaits_plain (request.Rename from to) = refl
+awaits_plain (request.Unlink path remove_dir) = refl
+
+-- What the operation of a slot in flight waits for is what its request does.
+flying_awaits : (slot : Option (Slot Rented)) (asked : Request Rented Parts) → request_in slot ≡ Some asked → flies_in slot ≡ true
+    → slot_awaits slot ≡ awaits asked
+flying_awaits None asked is flies = absurd cc
+flying_awaits (Some slot) asked is flies =
+    let same : slot.request ≡ asked = cc in ap (λ b. awaits_if b slot.request) flies ∙ ap awaits same
+
+-- One in flight isn't completed.
+flying_lives : (slot : Option (Slot Rented)) (outcome : Outcome) → flies_in slot ≡ true → IsCompleted slot outcome → ⊥
+flying_lives None outcome flies is = is
+flying_lives (Some slot) outcome flies is = true≢false (sym flies ∙ ap is_flying is)
+
+-- A slot is in flight still, if its operation wasn't completed.
+flies_still : (slot new : Option (Slot Rented)) (now : Request Rented Parts) → request_in new ≡ Some now → flies_in slot ≡ true
+    → ((outcome : Outcome) → IsCompleted new outcome → IsCompleted slot outcome) → flies_in new ≡ true
+flies_still slot None now is flies completed = absurd cc
+flies_still slot (Some one) now is flies completed = by one.life refl
+  where
+    by : (life : Lifecycle Outcome) → one.life ≡ life → flies_in (Some one) ≡ true
+    by Submitted is = ap is_flying is
+    by (Waiting t) is = ap is_flying is
+    by Ignored is = ap is_flying is
+    by (Completed outcome) is = absurd (flying_lives slot outcome flies (completed outcome is))
+
 module _ {I : Type 0} (files : I → ℕ → Bool) (view : I → IoView) (tells memory : Bool) (called : Called I)
     (law : Lawful view tells memory called) where
-  -- Where a call was made that would have blocked, what the object shows of its handles stays.
-  blocked_world : (slot new : Option (Slot Rented)) (before after : I) (back : Op)
-      → CallsOnce true buffer_of_rent called slot before new after (Ok (polled.Pending back)) → IsTrue tells
-      → (view after).world ≡ (view before).world
-  blocked_world slot new before after back calls =
-      (law before (plain_request buffer_of_rent calls.made.request) after (plain_request buffer_of_rent calls.now) WouldBlock
-      calls.made.calls).0.world
+  -- What a pending poll of an operation leaves, by whether its handle is a file: its call would have blocked; or it is listed.
+  abbrev Behind : Bool → ℕ → ℕ → ℕ → Direction → I → I → Kept → Type 0
+  Behind true h number task dir before after now =
+      (IsTrue tells → (view after).world ≡ (view before).world) × Rose (view before).blocks (view after).blocks
+  Behind false h number task dir before after now = (record_at now h ≡ None) ⊎ IsWaiting now h number task dir
 
-  -- By whether the pipe is a file.
-  by_file : (b : Bool) (pipe number task : ℕ) (dir : Direction) (slot new : Option (Slot Rented)) (before after : I)
+  by_file : (b : Bool) (h number task : ℕ) (dir : Direction) (slot new : Option (Slot Rented)) (before after : I)
       (records left now : Kept) (back : Op)
-      → files before pipe ≡ b
-      → CallsOnce (is_met_at records (if b then None else Some (pipe, dir))) buffer_of_rent called slot before new after
+      → CallsOnce (is_met_at records (if b then None else Some (h, dir))) buffer_of_rent called slot before new after
       (Ok (polled.Pending back))
-      → LeavesFor {B = Rented} (if b then None else Some (pipe, dir)) left number task now (Ok (polled.Pending back))
-      → WasFile files view tells after pipe
-      ⊎ ((record_at now pipe ≡ None) ⊎ ((way : Direction) × IsWaiting now pipe number task way))
-  by_file true pipe number task dir slot new before after records left now back is calls leaves = inl (record {
-    before = before;
-    is = is;
-    world = blocked_world slot new before after back calls;
-  })
-  by_file false pipe number task dir slot new before after records left now back is calls leaves =
-      elim (pending_leaves left now pipe number task dir Rented back leaves) [
-        | inl none ↦ inr (inl none)
-        | inr waits ↦ inr (inr (dir, waits))
-      ]
-
-  -- By what the operation waits for.
-  by_awaited : (awaited : Option (ℕ × Direction)) (pipe number task : ℕ) (dir : Direction) (slot new : Option (Slot Rented))
-      (before after : I) (records left now : Kept) (back : Op) → awaited ≡ Some (pipe, dir)
-      → CallsOnce (is_met_at records (unless (files before) awaited)) buffer_of_rent called slot before new after (Ok (polled.Pending back))
-      → LeavesFor {B = Rented} (unless (files before) awaited) left number task now (Ok (polled.Pending back))
-      → WasFile files view tells after pipe
-      ⊎ ((record_at now pipe ≡ None) ⊎ ((way : Direction) × IsWaiting now pipe number task way))
-  by_awaited awaited pipe number task dir slot new before after records left now back is calls leaves =
-      by_file (files before pipe) pipe number task dir slot new before after records left now back refl
-      (subst (λ a. CallsOnce (is_met_at records (unless (files before) a)) buffer_of_rent called slot before new after
-      (Ok (polled.Pending back))) is calls)
-      (subst (λ a. LeavesFor {B = Rented} (unless (files before) a) left number task now (Ok (polled.Pending back))) is leaves)
+      → LeavesFor {B = Rented} (if b then None else Some (h, dir)) left number task now (Ok (polled.Pending back))
+      → Behind b h number task dir before after now
+  by_file true h number task dir slot new before after records left now back calls leaves =
+      let does = law before (plain_request buffer_of_rent calls.made.request) after (plain_request buffer_of_rent calls.now) WouldBlock
+      calls.made.calls in
+      (does.0.world, does.1)
+  by_file false h number task dir slot new before after records left now back calls leaves =
+      pending_leaves left now h number task dir Rented back leaves
 
   -- An operation of which a poll is pending is in flight.
   flies_pending : (slot new : Option (Slot Rented)) (before after : I) (records : Kept) (back : Op) → slot_awaits slot ≡ None
@@ -105,43 +131,67 @@ module _ {I : Type 0} (files : I → ℕ → Bool) (view : I → IoView) (tells 
       (subst (λ a. CallsOnce (is_met_at records (unless (files before) a)) buffer_of_rent called slot before new after
       (Ok (polled.Pending back))) none calls).made.flies
 
-  -- So it is of the operation of a job.
-  by_slot : (slot new : Option (Slot Rented)) (pipe number task : ℕ) (before after : I) (records left now : Kept) (back : Op)
+  -- So one that moves bytes of a pipe waits for a direction of it.
+  pipe_awaits : (slot new : Option (Slot Rented)) (pipe : ℕ) (before after : I) (records : Kept) (back : Op)
       → MovesIf pipe (request_in slot)
       → CallsOnce (is_met_at records (unless (files before) (slot_awaits slot))) buffer_of_rent called slot before new after
-      (Ok (polled.Pending back))
-      → LeavesFor {B = Rented} (unless (files before) (slot_awaits slot)) left number task now (Ok (polled.Pending back))
-      → WasFile files view tells after pipe
-      ⊎ ((record_at now pipe ≡ None) ⊎ ((way : Direction) × IsWaiting now pipe number task way))
-  by_slot None new pipe number task before after records left now back moves calls leaves = absurd moves
-  by_slot (Some slot) new pipe number task before after records left now back moves calls leaves = by-life (is_flying slot.life) refl
+      (Ok (polled.Pending back)) → (dir : Direction) × (slot_awaits slot ≡ Some (pipe, dir))
+  pipe_awaits None new pipe before after records back moves calls = absurd moves
+  pipe_awaits (Some slot) new pipe before after records back moves calls = by (is_flying slot.life) refl
     where
-      by-life : (b : Bool) → is_flying slot.life ≡ b → WasFile files view tells after pipe
-          ⊎ ((record_at now pipe ≡ None) ⊎ ((way : Direction) × IsWaiting now pipe number task way))
-      by-life true flies =
-          let way = moves_awaits pipe slot.request moves in
-          by_awaited (slot_awaits (Some slot)) pipe number task way.0 (Some slot) new before after records left now back
-          (ap (λ b. awaits_if b slot.request) flies ∙ way.1) calls leaves
-      by-life false still =
+      by : (b : Bool) → is_flying slot.life ≡ b → (dir : Direction) × (slot_awaits (Some slot) ≡ Some (pipe, dir))
+      by true flies = let way = moves_awaits pipe slot.request moves in (way.0, ap (λ b. awaits_if b slot.request) flies ∙ way.1)
+      by false still =
           let flies = flies_pending (Some slot) new before after records back (ap (λ b. awaits_if b slot.request) still) calls in
-          absurd (let both : true ≡ false = sym flies ∙ still in cc)
+          absurd (true≢false (sym flies ∙ still))
 
-  -- The step that follows the poll of a job's operation.
-  pub answered_awaits : (old new : LegacyState I Rented) (op : Op) (task pipe : ℕ) (answer : PollOp Rented) (next : Step)
-      → PollEndsFor files buffer_of_rent called view tells memory old new op task (Ok answer)
-      → MovesIf pipe (request_in (map.get old.slots.values op.key)) → TokensFor (ops_in old) (ops_in new) op (Ok answer)
-      → StepFor answer next
-      → AwaitsBy files view tells new pipe task next
-  answered_awaits old new op task pipe (polled.Pending back) (step.Pending (Waiting wait)) ends moves tokens is =
-      let own : wait ≡ op = (let both : Waiting wait ≡ Waiting back = is in let e : wait ≡ back = cc in e ∙ tokens.0) in
-      subst (λ o. AwaitsPipe files view tells new pipe task (Waiting o)) (sym own)
-      (by_slot (map.get old.slots.values op.key) (map.get new.slots.values op.key) pipe op.number task old.handling.io new.handling.io
-      old.handling.records ends.0.records new.handling.records back moves ends.2 ends.0.leaves)
-  answered_awaits old new op task pipe (polled.Pending back) (step.Pending (Room room)) ends moves tokens is = absurd cc
-  answered_awaits old new op task pipe (polled.Pending back) (step.Again wait) ends moves tokens is = tt
-  answered_awaits old new op task pipe (polled.Pending back) (step.OutOfMemory wait) ends moves tokens is = tt
-  answered_awaits old new op task pipe (polled.Pending back) (step.Ended end) ends moves tokens is = tt
-  answered_awaits old new op task pipe (polled.Ready done) (step.Pending wait) ends moves tokens is = absurd is
-  answered_awaits old new op task pipe (polled.Ready done) (step.Again wait) ends moves tokens is = tt
-  answered_awaits old new op task pipe (polled.Ready done) (step.OutOfMemory wait) ends moves tokens is = tt
-  answered_awaits old new op task pipe (polled.Ready done) (step.Ended end) ends moves tokens is = tt
+  -- It waits for that still.
+  awaits_still : (b : Bool) (slot new : Option (Slot Rented)) (before after : I) (back : Op) (awaited : Option (ℕ × Direction))
+      → CallsOnce b buffer_of_rent called slot before new after (Ok (polled.Pending back))
+      → ((outcome : Outcome) → IsCompleted new outcome → IsCompleted slot outcome) → slot_awaits slot ≡ awaited → slot_awaits new ≡ awaited
+  awaits_still false slot new before after back awaited calls completed is = ap slot_awaits calls.slot_is ∙ is
+  awaits_still true slot new before after back awaited calls completed is =
+      let does = law before (plain_request buffer_of_rent calls.made.request) after (plain_request buffer_of_rent calls.now) WouldBlock
+      calls.made.calls in
+      flying_awaits new calls.now calls.stays (flies_still slot new calls.now calls.stays calls.made.flies completed)
+      ∙ sym (awaits_plain calls.now) ∙ ap awaits does.0.same ∙ awaits_plain calls.made.request
+      ∙ sym (flying_awaits slot calls.made.request calls.made.asked calls.made.flies) ∙ is
+
+  -- What a pending poll of a job's operation leaves.
+  module _ (old new : LegacyState I Rented) (op back : Op) (task pipe : ℕ)
+      (ends : PollEndsFor files buffer_of_rent called view tells memory old new op task (Ok (polled.Pending back)))
+      (moves : MovesIf pipe (request_in (map.get old.slots.values op.key))) where
+    way : (dir : Direction) × (slot_awaits (map.get old.slots.values op.key) ≡ Some (pipe, dir))
+    way = pipe_awaits (map.get old.slots.values op.key) (map.get new.slots.values op.key) pipe old.handling.io new.handling.io
+        old.handling.records back moves ends.2
+
+    behind : Behind (files old.handling.io pipe) pipe op.number task way.0 old.handling.io new.handling.io new.handling.records
+    behind = by_file (files old.handling.io pipe) pipe op.number task way.0 (map.get old.slots.values op.key)
+        (map.get new.slots.values op.key) old.handling.io new.handling.io old.handling.records ends.0.records new.handling.records back
+        (subst (λ a. CallsOnce (is_met_at old.handling.records (unless (files old.handling.io) a)) buffer_of_rent called
+        (map.get old.slots.values op.key) old.handling.io (map.get new.slots.values op.key) new.handling.io (Ok (polled.Pending back)))
+        way.1 ends.2)
+        (subst (λ a. LeavesFor {B = Rented} (unless (files old.handling.io) a) ends.0.records op.number task new.handling.records
+        (Ok (polled.Pending back))) way.1 ends.0.leaves)
+
+    -- Where its pipe is no file, it is listed with the task.
+    pub pending_listed : files old.handling.io pipe ≡ false → PollsSlotFor (ops_in old) (ops_in new) op (Ok (polled.Pending back))
+        → back ≡ op → AreRecorded new.handling.table new.handling.records → is_known new.handling.table pipe ≡ true
+        → IsListed new pipe back task
+    pending_listed none_of_it slots own recorded known = subst (λ o. IsListed new pipe o task) (sym own) (record {
+      direction = way.0;
+      awaits = awaits_still (is_met_at old.handling.records (unless (files old.handling.io)
+          (slot_awaits (map.get old.slots.values op.key)))) (map.get old.slots.values op.key) (map.get new.slots.values op.key)
+          old.handling.io new.handling.io back (Some (pipe, way.0)) ends.2 (λ outcome. (slots.completed outcome).0) way.1;
+      waits = elim (subst (λ b. Behind b pipe op.number task way.0 old.handling.io new.handling.io new.handling.records)
+          none_of_it behind) [
+            | inl none ↦ absurd (true≢false (sym known ∙ sym (recorded pipe) ∙ ap is_some none))
+            | inr waits ↦ waits
+          ];
+    })
+
+    -- Where it is one, its call would have blocked.
+    pub pending_blocks : files old.handling.io pipe ≡ true → BlocksFile files view tells old new pipe
+    pending_blocks one =
+        let blocked = subst (λ b. Behind b pipe op.number task way.0 old.handling.io new.handling.io new.handling.records) one behind in
+        record { before = old.handling.io; is = one; world = blocked.0; blocks = blocked.1 }

@@ -238,13 +238,13 @@ module _ {I : Type 0} (view : I → IoView) (tells memory : Bool) (called : Call
       moves ends.calls
 
   -- The causes of an error of a job's operation.
-  error_causes : (old new : LegacyState I Rented) (op : Op) (pipe cancels e : ℕ)
+  error_causes : (files : I → ℕ → Bool) (old new : LegacyState I Rented) (op : Op) (pipe cancels e : ℕ)
       → ErrorFor old.handling.table (map.get old.slots.values op.key) (view old.handling.io) (view new.handling.io) (Fail e)
       → (view new.handling.io).made ≡ (view old.handling.io).made → IsOwn pipe cancels (map.get old.slots.values op.key)
-      → PipeFaultFor view pipe cancels old new (fault.Os e)
-  error_causes old new op pipe cancels e (inl rose) made own = inl rose
-  error_causes old new op pipe cancels e (inr (inl asked)) made own = inr (inl (asked.error, own.asked (Fail CANCELED) asked.asked))
-  error_causes old new op pipe cancels e (inr (inr refused)) made own =
+      → PipeFaultFor files view tells pipe cancels old new (fault.Os e)
+  error_causes files old new op pipe cancels e (inl rose) made own = inl rose
+  error_causes files old new op pipe cancels e (inr (inl asked)) made own = inr (inl (asked.error, own.asked (Fail CANCELED) asked.asked))
+  error_causes files old new op pipe cancels e (inr (inr refused)) made own =
       absurd (let more = refused.made in let same : suc (view old.handling.io).made ≡ (view old.handling.io).made = sym more ∙ made in
       omega (arith, same))
 
@@ -252,9 +252,10 @@ module _ {I : Type 0} (view : I → IoView) (tells memory : Bool) (called : Call
   pub ready_causes : (files : I → ℕ → Bool) (old new : LegacyState I Rented) (op : Op) (task pipe cancels : ℕ) (done : Ended Rented)
       (why : IoFault)
       → EndsOp files buffer_of_rent called view tells memory old new op task done → FailsFor view old new op (Ok (Ready done))
-      → FitsWait (ops_in old) pipe cancels (Waiting op) → IsFaultOf done.outcome why → PipeFaultFor view pipe cancels old new why
+      → FitsWait (ops_in old) pipe cancels (Waiting op) → IsFaultOf done.outcome why
+      → PipeFaultFor files view tells pipe cancels old new why
   ready_causes files old new op task pipe cancels done (fault.Os e) ends fails fits is =
-      error_causes old new op pipe cancels e
+      error_causes files old new op pipe cancels e
       (subst (ErrorFor old.handling.table (map.get old.slots.values op.key) (view old.handling.io) (view new.handling.io)) is fails)
       (poll_makes files old new op task pipe done e ends is fits.2.moves) fits.2
   ready_causes files old new op task pipe cancels done fault.UnexpectedEof ends fails fits is = tt

@@ -1,5 +1,5 @@
 -- What calls on operations leave of jobs that wait for others.
-use Rattle.std.proofs.Common.{ℕ, ◌≡◌, ◌≢◌, ◌≤◌, ◌+◌, ◌∙◌, ap, sym, refl, subst, Bool, true, false, Option, Some, None, Ok, Err, arith}
+use Rattle.std.proofs.Common.{ℕ, ◌≡◌, ◌≢◌, ◌≤◌, ◌<◌, ◌+◌, ◌∙◌, ap, sym, refl, subst, Bool, true, false, Option, Some, None, Ok, Err, arith}
 use Rattle.std.specs.Prelude.{Result, option_map}
 use Rattle.std.specs.FinMap as map
 use Rattle.std.specs.Ordering.{nat_cmp}
@@ -38,6 +38,10 @@ same_token ops one other holds holds_other same =
     let number : other.number ≡ one.number = (let both : Some (number_of other) ≡ Some (number_of one) = sym there ∙ holds in cc) in
     ap (λ n. record { number = n; key = other.key }) number ∙ ap (λ k. record { number = one.number; key = k }) same
 
+-- An operation of another number that is held has another key.
+pub other_key : (ops : Ops Rented) (op other : Op) → Holds ops op → Holds ops other → number_of op ≢ number_of other → other.key ≢ op.key
+other_key ops op other holds held apart = λ same. apart (sym (ap number_of (same_token ops op other holds held same)))
+
 -- What fits a driver is held by it.
 pub fits_holds : (ops : Ops Rented) (pipe cancels : ℕ) (wait : Wait) → FitsWait ops pipe cancels wait → HoldsWait ops wait
 fits_holds ops pipe cancels (Room room) fits = tt
@@ -55,7 +59,7 @@ beside_fit_at : (old new : Ops Rented) (op : Op) → ((k : ℕ) → k ≢ op.key
     → ApartWaits (Waiting op) other → FitsWait new pipe cancels other
 beside_fit_at old new op others given holds pipe cancels (Room room) fits apart = tt
 beside_fit_at old new op others given holds pipe cancels (Waiting other) fits apart =
-    stays_fit old new other pipe cancels (others other.key (λ same. apart (sym (same_token old op other holds fits.0 same)))) given fits
+    stays_fit old new other pipe cancels (others other.key (other_key old op other holds fits.0 apart)) given fits
 
 -- So it keeps what each other job waits for.
 beside_fit : (old new : Ops Rented) (op : Op) → ((k : ℕ) → k ≢ op.key → map.get new.slots.values k ≡ map.get old.slots.values k)
@@ -97,7 +101,7 @@ canceled_if-other true slots key slot k other = put-other slots key _ k other
 canceled_if-other false slots key slot k other = refl
 
 -- So it is where there may be no slot at the key.
-canceled-other : (slots : map.FinMap nat_cmp (Slot Rented)) (key : ℕ) (slot : Option (Slot Rented)) (k : ℕ) → k ≢ key
+pub canceled-other : (slots : map.FinMap nat_cmp (Slot Rented)) (key : ℕ) (slot : Option (Slot Rented)) (k : ℕ) → k ≢ key
     → map.get (canceled_in slots key slot) k ≡ map.get slots k
 canceled-other slots key None k other = refl
 canceled-other slots key (Some slot) k other = canceled_if-other (is_flying slot.life) slots key slot k other
@@ -135,6 +139,12 @@ canceled_fits old new op pipe cancels tokens requests given fits =
 fresh_slot : (slot : Slot Rented) → slot.life ≡ Submitted → (outcome : Outcome) → IsCompleted (Some slot) outcome → ⊥
 fresh_slot slot life outcome is = let both : Submitted ≡ Completed outcome = sym life ∙ is in cc
 
+-- The slot of a new operation has another key than that of each job.
+pub submitted_key : (old new : Ops Rented) (op other : Op) → AddsToken old new op → Holds old other → number_of other < old.given
+    → other.key ≢ op.key
+submitted_key old new op other adds holds below = other_key new op other adds.this (adds.kept other holds)
+    (λ same. let number = adds.number in omega (arith, number, below, same))
+
 -- A submission keeps what each job waits for.
 pub submitted_fits : (old new : Ops Rented) (op : Op) (request : Request Rented Parts) → AddsToken old new op
     → new.slots.values ≡ map.insert old.slots.values op.key (new_slot old request) → (pipe cancels : ℕ) (other : Wait)
@@ -142,14 +152,9 @@ pub submitted_fits : (old new : Ops Rented) (op : Op) (request : Request Rented 
 submitted_fits old new op request adds slots pipe cancels (Room room) fits = tt
 submitted_fits old new op request adds slots pipe cancels (Waiting other) fits =
     stays_fit old new other pipe cancels
-    (ap (λ s. map.get s other.key) slots ∙ put-other old.slots.values op.key (new_slot old request) other.key differs)
+    (ap (λ s. map.get s other.key) slots ∙ put-other old.slots.values op.key (new_slot old request) other.key
+    (submitted_key old new op other adds fits.0 fits.1))
     (let next = adds.next in omega (arith, next)) fits
-  where
-    differs : other.key ≢ op.key
-    differs same =
-        let is : other ≡ op = same_token new op other adds.this (adds.kept other fits.0) same in
-        let number = adds.number in let below = fits.1 in let e : number_of other ≡ number_of op = ap number_of is in
-        omega (arith, number, below, e)
 
 -- So it keeps what each job waits for.
 pub submitted_keeps : (old new : Ops Rented) (op : Op) (request : Request Rented Parts) (wait : Wait) → AddsToken old new op
@@ -178,8 +183,7 @@ pub submitted_apart : (old new : Ops Rented) (op : Op) → AddsToken old new op 
     → FitsWait old pipe cancels other → ApartWaits (Waiting op) other
 submitted_apart old new op adds pipe cancels (Room room) fits = tt
 submitted_apart old new op adds pipe cancels (Waiting other) fits = λ same.
-    let below = fits.1 in let number = adds.number in let e : number_of op ≡ number_of other = ap number_of same in
-    omega (arith, below, number, e)
+    let below = fits.1 in let number = adds.number in omega (arith, below, number, same)
 
 -- Jobs that are sound over a driver are so behind a call that leaves each slot.
 pub kept_sound : {I : Type 0} (old new : LegacyState I Rented) (jobs : ℕ → Option PipeJob) → new.slots ≡ old.slots → new.given ≡ old.given

@@ -1,30 +1,21 @@
 -- What the steps of a job's poll do one after the other.
-use Rattle.std.proofs.Common.{ℕ, ◌≡◌, ◌≤◌, sym, subst, Bool, Ok, Err, arith, inl, inr}
-use Rattle.rent_buf.specs.Rent.{Rented, buffer_of_rent}
+use Rattle.std.proofs.Common.{ℕ, ◌≤◌, Bool, Ok, Err, arith, inl, inr}
+use Rattle.rent_buf.specs.Rent.{Rented}
 use Rattle.rent_buf.specs.Counts.{Rose}
 use Rattle.rent_buf.specs.declared.fault.IoFault.{IoFault}
 use Rattle.rent_buf.specs.declared.fault.IoFault.TheVariants as fault
-use Rattle.rent_buf.specs.declared.fault.OutOfMemory.{OutOfMemory as NoMemory}
 use Rattle.driver_core.specs.Ops.{Ops}
-use Rattle.driver_core.specs.declared.op.Op.{Op}
-use Rattle.driver_core.specs.declared.op.PollOp.{PollOp}
-use Rattle.driver_core.specs.declared.op.PollOp.TheVariants as polled
-use Rattle.ready_driver.specs.Awaits.{TokensFor}
-use Rattle.ready_driver.specs.Calling.{Called}
-use Rattle.ready_driver.specs.Errors.{FailsFor}
 use Rattle.ready_driver.specs.Io.{IoView, IsLater}
-use Rattle.ready_driver.specs.LegacyPolls.{EndsFor as PollEndsFor}
 use Rattle.ready_driver.specs.LegacyState.{LegacyState, ops_in}
-use Rattle.ready_driver.specs.Named.{PollsSlotFor}
-use Rattle.pipe_job.specs.Causes.{StepEndsFor, PipeFaultFor, WaitsBy}
-use Rattle.pipe_job.specs.Steps.{StepFor, StepsTo}
-use Rattle.pipe_job.specs.Waits.{ApartWaits, FitsWait, IfBack, KeepsApart, StaysApart}
+use Rattle.pipe_job.specs.Causes.{BlocksFile, StepEndsFor, PipeFaultFor, WaitsBy}
+use Rattle.pipe_job.specs.Steps.{StepsTo}
+use Rattle.pipe_job.specs.Waits.{FitsWait, IfBack, KeepsApart, StaysApart}
 use Rattle.pipe_job.specs.declared.step.Wait.{Wait}
 use Rattle.pipe_job.specs.declared.step.Wait.TheVariants.{Room, Waiting}
 use Rattle.pipe_job.specs.declared.step.Step.{Step}
 use Rattle.pipe_job.specs.declared.step.Step.TheVariants as step
-use Rattle.pipe_job.proofs.Calls.{Lawful, pending_fit, pending_waits, poll_later, ready_causes, starved_fit}
-use Rattle.pipe_job.proofs.Frames.{polled_apart, same_fit}
+use Rattle.pipe_job.proofs.Frames.{same_fit}
+use Rattle.pipe_job.proofs.Staying.{same_stays}
 
 -- Counts that are later than later ones are later.
 pub later_both : (one two three : IoView) → IsLater one two → IsLater two three → IsLater one three
@@ -38,13 +29,27 @@ later_both one two three first second = record {
 rose_since : (one two three : ℕ) → one ≤ two → Rose two three → Rose one three
 rose_since one two three first rose = omega (arith, first, rose)
 
-module _ {I : Type 0} (view : I → IoView) where
+module _ {I : Type 0} (files : I → ℕ → Bool) (view : I → IoView) (tells : Bool) where
+  -- So did that of calls on a file that would have blocked.
+  blocks_since : (old mid new : LegacyState I Rented) (h : ℕ) → IsLater (view old.handling.io) (view mid.handling.io)
+      → BlocksFile files view tells mid new h → BlocksFile files view tells old new h
+  blocks_since old mid new h later file = record {
+    before = file.before;
+    is = file.is;
+    world = file.world;
+    blocks = rose_since _ _ _ later.blocks file.blocks;
+  }
+
   -- A fault has its cause since an earlier call.
   fault_since : (pipe cancels : ℕ) (old mid new : LegacyState I Rented) (why : IoFault)
       → IsLater (view old.handling.io) (view mid.handling.io)
-      → PipeFaultFor view pipe cancels mid new why → PipeFaultFor view pipe cancels old new why
+      → PipeFaultFor files view tells pipe cancels mid new why → PipeFaultFor files view tells pipe cancels old new why
   fault_since pipe cancels old mid new (fault.Os e) later (inl rose) = inl (rose_since _ _ _ later.fails rose)
-  fault_since pipe cancels old mid new (fault.Os e) later (inr other) = inr other
+  fault_since pipe cancels old mid new (fault.Os e) later (inr (inl asked)) = inr (inl asked)
+  fault_since pipe cancels old mid new (fault.Os e) later (inr (inr (inl full))) = inr (inr (inl full))
+  fault_since pipe cancels old mid new (fault.Os e) later (inr (inr (inr (inl not_held)))) = inr (inr (inr (inl not_held)))
+  fault_since pipe cancels old mid new (fault.Os e) later (inr (inr (inr (inr again)))) =
+      inr (inr (inr (inr (again.0, blocks_since old mid new pipe later again.1))))
   fault_since pipe cancels old mid new fault.UnexpectedEof later is = tt
   fault_since pipe cancels old mid new fault.WriteZero later is = tt
   fault_since pipe cancels old mid new fault.InvalidData later is = tt
@@ -53,7 +58,7 @@ module _ {I : Type 0} (view : I → IoView) where
   fault_since pipe cancels old mid new fault.OutOfMemory later is = absurd is
 
   ends_since : (pipe cancels : ℕ) (old mid new : LegacyState I Rented) (next : Step) → IsLater (view old.handling.io) (view mid.handling.io)
-      → StepEndsFor view pipe cancels mid new next → StepEndsFor view pipe cancels old new next
+      → StepEndsFor files view tells pipe cancels mid new next → StepEndsFor files view tells pipe cancels old new next
   ends_since pipe cancels old mid new (step.Again wait) later ends = tt
   ends_since pipe cancels old mid new (step.Pending wait) later ends = tt
   ends_since pipe cancels old mid new (step.OutOfMemory wait) later ends = tt
@@ -86,8 +91,8 @@ module _ {I : Type 0} (view : I → IoView) where
 
   -- A step behind others.
   pub steps_on : (pipe cancels : ℕ) (old mid new : LegacyState I Rented) (wait further : Wait) (next : Step)
-      → StepsTo view pipe cancels old mid wait (step.Again further) → StepsTo view pipe cancels mid new further next
-      → StepsTo view pipe cancels old new wait next
+      → StepsTo files view tells pipe cancels old mid wait (step.Again further) → StepsTo files view tells pipe cancels mid new further next
+      → StepsTo files view tells pipe cancels old new wait next
   steps_on pipe cancels old mid new wait further next first second = record {
     fits = second.fits;
     others = record {
@@ -95,6 +100,10 @@ module _ {I : Type 0} (view : I → IoView) where
           (first.apart p n other fits apart);
     };
     apart = apart_since (ops_in old) (ops_in mid) wait further next first.others first.apart second.apart;
+    stays = record {
+      keep = λ p n t other fits apart waits. second.stays.keep p n t other (first.others.keep p n other fits apart)
+          (first.apart p n other fits apart) (first.stays.keep p n t other fits apart waits);
+    };
     later = later_both (view old.handling.io) (view mid.handling.io) (view new.handling.io) first.later second.later;
     ends = ends_since pipe cancels old mid new next first.later second.ends;
     waits = waits_since old mid new next first.later second.waits;
@@ -102,79 +111,13 @@ module _ {I : Type 0} (view : I → IoView) where
 
   -- No step.
   pub steps_none : (pipe cancels : ℕ) (old : LegacyState I Rented) (wait : Wait) → FitsWait (ops_in old) pipe cancels wait
-      → StepsTo view pipe cancels old old wait (step.Again wait)
+      → StepsTo files view tells pipe cancels old old wait (step.Again wait)
   steps_none pipe cancels old wait fits = record {
     fits = fits;
     others = same_fit (ops_in old) wait;
     apart = λ p n other fits apart. apart;
+    stays = same_stays old wait;
     later = record { faults = omega arith; blocks = omega arith; fails = omega arith };
-    ends = tt;
-    waits = tt;
-  }
-
--- The same operation is apart from those that it was apart from.
-same_apart : (ops : Ops Rented) (op back : Op) → back ≡ op → StaysApart ops (Waiting op) (Waiting back)
-same_apart ops op back same pipe cancels other fits apart = subst (λ o. ApartWaits (Waiting o) other) (sym same) apart
-
-module _ {I : Type 0} (view : I → IoView) (tells memory : Bool) (called : Called I) (law : Lawful view tells memory called) where
-  -- The step that follows the poll of a job's operation.
-  pub answered_steps : (files : I → ℕ → Bool) (old new : LegacyState I Rented) (op : Op) (task pipe cancels : ℕ) (answer : PollOp Rented)
-      (next : Step) → PollEndsFor files buffer_of_rent called view tells memory old new op task (Ok answer)
-      → FailsFor view old new op (Ok answer)
-      → PollsSlotFor (ops_in old) (ops_in new) op (Ok answer) → TokensFor (ops_in old) (ops_in new) op (Ok answer) → new.given ≡ old.given
-      → FitsWait (ops_in old) pipe cancels (Waiting op) → StepFor answer next → StepsTo view pipe cancels old new (Waiting op) next
-  answered_steps files old new op task pipe cancels (polled.Pending back) (step.Pending wait) ends fails slots tokens given fits is =
-      subst (λ w. StepsTo view pipe cancels old new (Waiting op) (step.Pending w)) (sym is) (record {
-        fits = pending_fit view tells memory called law files old new op back task pipe cancels ends slots tokens given fits;
-        others = polled_apart (ops_in old) (ops_in new) op (Ok (polled.Pending back)) slots given fits.0;
-        apart = same_apart (ops_in old) op back tokens.0;
-        later = poll_later view tells memory called law files old new op task (Ok (polled.Pending back)) ends;
-        ends = tt;
-        waits = pending_waits view tells memory called law files old new op back task ends tokens.0;
-      })
-  answered_steps files old new op task pipe cancels (polled.Pending back) (step.Again wait) ends fails slots tokens given fits is =
-      absurd is
-  answered_steps files old new op task pipe cancels (polled.Pending back) (step.OutOfMemory wait) ends fails slots tokens given fits is =
-      absurd is
-  answered_steps files old new op task pipe cancels (polled.Pending back) (step.Ended end) ends fails slots tokens given fits is = absurd is
-  answered_steps files old new op task pipe cancels (polled.Ready done) (step.Again (Room room)) ends fails slots tokens given fits is =
-      record {
-        fits = tt;
-        others = polled_apart (ops_in old) (ops_in new) op (Ok (polled.Ready done)) slots given fits.0;
-        apart = λ p n other fit apart. tt;
-        later = poll_later view tells memory called law files old new op task (Ok (polled.Ready done)) ends;
-        ends = tt;
-        waits = tt;
-      }
-  answered_steps files old new op task pipe cancels (polled.Ready done) (step.Again (Waiting other)) ends fails slots tokens given fits is =
-      absurd is
-  answered_steps files old new op task pipe cancels (polled.Ready done) (step.Pending wait) ends fails slots tokens given fits is =
-      absurd is
-  answered_steps files old new op task pipe cancels (polled.Ready done) (step.OutOfMemory wait) ends fails slots tokens given fits is =
-      absurd is
-  answered_steps files old new op task pipe cancels (polled.Ready done) (step.Ended (Ok whole)) ends fails slots tokens given fits is =
-      absurd is
-  answered_steps files old new op task pipe cancels (polled.Ready done) (step.Ended (Err why)) ends fails slots tokens given fits is =
-      record {
-        fits = tt;
-        others = polled_apart (ops_in old) (ops_in new) op (Ok (polled.Ready done)) slots given fits.0;
-        apart = tt;
-        later = poll_later view tells memory called law files old new op task (Ok (polled.Ready done)) ends;
-        ends = ready_causes view tells memory called law files old new op task pipe cancels done why ends fails fits is;
-        waits = tt;
-      }
-
-  -- The step that follows one for which memory ran out.
-  pub starved_steps : (files : I → ℕ → Bool) (old new : LegacyState I Rented) (op : Op) (task pipe cancels : ℕ) (error : NoMemory × Op)
-      → PollEndsFor files buffer_of_rent called view tells memory old new op task (Err error)
-      → PollsSlotFor (ops_in old) (ops_in new) op (Err error) → TokensFor (ops_in old) (ops_in new) op (Err error) → new.given ≡ old.given
-      → FitsWait (ops_in old) pipe cancels (Waiting op)
-      → StepsTo view pipe cancels old new (Waiting op) (step.OutOfMemory (Waiting error.1))
-  starved_steps files old new op task pipe cancels error ends slots tokens given fits = record {
-    fits = starved_fit view tells memory called law files old new op error task pipe cancels ends slots tokens given fits;
-    others = polled_apart (ops_in old) (ops_in new) op (Err error) slots given fits.0;
-    apart = same_apart (ops_in old) op error.1 tokens.0;
-    later = poll_later view tells memory called law files old new op task (Err error) ends;
     ends = tt;
     waits = tt;
   }

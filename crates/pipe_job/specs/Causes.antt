@@ -1,5 +1,5 @@
 -- Why a poll of a job ends with a fault, and when it waits. Cited by `step` and `PipeJob`.
-use Rattle.std.specs.Prelude.{ℕ, ◌≡◌, ◌≢◌, ◌≤◌, ◌⊎◌, false, [], ◌∷◌, Result, Ok, Err}
+use Rattle.std.specs.Prelude.{ℕ, ◌≡◌, ◌≢◌, ◌≤◌, ◌⊎◌, Bool, true, false, [], ◌∷◌, IsTrue, Result, Ok, Err}
 use Rattle.std.specs.FinMap as map
 use Rattle.rent_buf.specs.Counts.{Rose}
 use Rattle.rent_buf.specs.Rent.{Rented}
@@ -22,36 +22,48 @@ use Rattle.pipe_job.specs.declared.step.Step.TheVariants.{Again, Pending, OutOfM
 abbrev pub TakesNone : {I : Type 0} → LegacyState I Rented → Type 0
 TakesNone driver = (live_slots driver ≡ MAX_LIVE) ⊎ (MOST_GIVEN ≤ driver.given)
 
--- The causes of a job's error: a call ended with an error, so that the count of these rose; or the job's cancel was asked for; or the
--- driver takes no further operation; or the user doesn't hold the pipe.
-abbrev pub OsFor : {I : Type 0} → (I → IoView) → ℕ → ℕ → LegacyState I Rented → LegacyState I Rented → ℕ → Type 0
-OsFor view pipe cancels old new e =
-    Rose (view old.handling.io).fails (view new.handling.io).fails
-    ⊎ (((e ≡ CANCELED) × (cancels ≢ 0))
-    ⊎ (((e ≡ AGAIN) × TakesNone new)
-    ⊎ ((e ≡ NOT_HELD) × (holds_all new.handling.table (pipe ∷ []) ≡ false))))
+-- A handle was a file when a call on it would have blocked, so that the count of these rose. What the object shows of its handles stayed.
+pub record BlocksFile {I : Type 0} (files : I → ℕ → Bool) (view : I → IoView) (tells : Bool) (old new : LegacyState I Rented) (h : ℕ)
+    : Type 0 where
+  pub before : I
+  pub is : files before h ≡ true
+  pub world : IsTrue tells → (view new.handling.io).world ≡ (view before).world
+  pub blocks : Rose (view old.handling.io).blocks (view new.handling.io).blocks
 
--- The causes of a fault. A refused submission is a `ReadFault`: the object failed, so that its count of faults rose.
-abbrev pub PipeFaultFor : {I : Type 0} → (I → IoView) → ℕ → ℕ → LegacyState I Rented → LegacyState I Rented → IoFault → Type 0
-PipeFaultFor view pipe cancels old new (Os e) = OsFor view pipe cancels old new e
-PipeFaultFor view pipe cancels old new ReadFault = Rose (view old.handling.io).faults (view new.handling.io).faults
-PipeFaultFor view pipe cancels old new UnexpectedEof = Unit {0}
-PipeFaultFor view pipe cancels old new WriteZero = Unit {0}
-PipeFaultFor view pipe cancels old new InvalidData = Unit {0}
-PipeFaultFor view pipe cancels old new WriteFault = ⊥
-PipeFaultFor view pipe cancels old new NoMemory = ⊥
+-- Of a poll of a job over a pipe, whose cancel was asked for so often.
+module _ {I : Type 0} (files : I → ℕ → Bool) (view : I → IoView) (tells : Bool) (pipe cancels : ℕ) (old new : LegacyState I Rented) where
+  -- The causes of the job's error: a call ended with an error, so that the count of these rose; or the job's cancel was asked for; or the
+  -- driver takes no further operation; or the user doesn't hold the pipe; or the pipe is a file, of which nothing is reported, and a call
+  -- on it would have blocked.
+  abbrev pub OsFor : ℕ → Type 0
+  OsFor e =
+      Rose (view old.handling.io).fails (view new.handling.io).fails
+      ⊎ (((e ≡ CANCELED) × (cancels ≢ 0))
+      ⊎ (((e ≡ AGAIN) × TakesNone new)
+      ⊎ (((e ≡ NOT_HELD) × (holds_all new.handling.table (pipe ∷ []) ≡ false))
+      ⊎ ((e ≡ AGAIN) × BlocksFile files view tells old new pipe))))
 
--- The causes of an end, which has one if it is a fault.
-abbrev pub PipeEndsFor : {I : Type 0} → (I → IoView) → ℕ → ℕ → LegacyState I Rented → LegacyState I Rented → Result Unit IoFault → Type 0
-PipeEndsFor view pipe cancels old new (Ok done) = Unit {0}
-PipeEndsFor view pipe cancels old new (Err fault) = PipeFaultFor view pipe cancels old new fault
+  -- The causes of a fault. A refused submission is a `ReadFault`: the object failed, so that its count of faults rose.
+  abbrev pub PipeFaultFor : IoFault → Type 0
+  PipeFaultFor (Os e) = OsFor e
+  PipeFaultFor ReadFault = Rose (view old.handling.io).faults (view new.handling.io).faults
+  PipeFaultFor UnexpectedEof = Unit {0}
+  PipeFaultFor WriteZero = Unit {0}
+  PipeFaultFor InvalidData = Unit {0}
+  PipeFaultFor WriteFault = ⊥
+  PipeFaultFor NoMemory = ⊥
 
--- The same of a step, if it ends.
-abbrev pub StepEndsFor : {I : Type 0} → (I → IoView) → ℕ → ℕ → LegacyState I Rented → LegacyState I Rented → Step → Type 0
-StepEndsFor view pipe cancels old new (Ended end) = PipeEndsFor view pipe cancels old new end
-StepEndsFor view pipe cancels old new (Again wait) = Unit {0}
-StepEndsFor view pipe cancels old new (Pending wait) = Unit {0}
-StepEndsFor view pipe cancels old new (OutOfMemory wait) = Unit {0}
+  -- The causes of an end, which has one if it is a fault.
+  abbrev pub PipeEndsFor : Result Unit IoFault → Type 0
+  PipeEndsFor (Ok done) = Unit {0}
+  PipeEndsFor (Err fault) = PipeFaultFor fault
+
+  -- The same of a step, if it ends.
+  abbrev pub StepEndsFor : Step → Type 0
+  StepEndsFor (Ended end) = PipeEndsFor end
+  StepEndsFor (Again wait) = Unit {0}
+  StepEndsFor (Pending wait) = Unit {0}
+  StepEndsFor (OutOfMemory wait) = Unit {0}
 
 -- A job that waits has an operation, which waits for a direction that no bit of its handle meets, or would have blocked, so that the count
 -- of these calls rose.

@@ -1,5 +1,5 @@
 -- A job over a pipe, and the driver that it fits. Cited by `PipeJob`.
-use Rattle.std.specs.Prelude.{ℕ, ◌≡◌, List, Result, Ok, Err, IsOk}
+use Rattle.std.specs.Prelude.{ℕ, ◌≡◌, Bool, List, Result, Ok, Err, IsOk}
 use Rattle.rent_buf.specs.Rent.{Rented}
 use Rattle.rent_buf.specs.declared.fault.IoFault.{IoFault}
 use Rattle.rent_buf.specs.declared.fault.OutOfMemory.{OutOfMemory}
@@ -66,12 +66,12 @@ abbrev pub FitsEach : PipeJob → Type 0
 FitsEach job = (ops : Ops Rented) → FitsWait ops job.course.pipe job.cancels job.wait
 
 -- The causes of the fault that a poll of a job ends with, if it does.
-abbrev pub EndsJob : {I : Type 0} → (I → IoView) → LegacyState I Rented → LegacyState I Rented → PipeJob
+abbrev pub EndsJob : {I : Type 0} → (I → ℕ → Bool) → (I → IoView) → Bool → LegacyState I Rented → LegacyState I Rented → PipeJob
     → JobStep PipeJob (Result (List ℕ) IoFault) → Type 0
-EndsJob view old new was (job.Done (Ok bytes)) = Unit {0}
-EndsJob view old new was (job.Done (Err fault)) = PipeFaultFor view was.course.pipe was.cancels old new fault
-EndsJob view old new was (job.Pending next) = Unit {0}
-EndsJob view old new was (job.OutOfMemory next) = Unit {0}
+EndsJob files view tells old new was (job.Done (Ok bytes)) = Unit {0}
+EndsJob files view tells old new was (job.Done (Err fault)) = PipeFaultFor files view tells was.course.pipe was.cancels old new fault
+EndsJob files view tells old new was (job.Pending next) = Unit {0}
+EndsJob files view tells old new was (job.OutOfMemory next) = Unit {0}
 
 -- Why a job is pending behind a poll, if it is.
 abbrev pub WaitsJob : {I : Type 0} → (I → IoView) → LegacyState I Rented → LegacyState I Rented

@@ -46,9 +46,9 @@ abbrev pub IsGoneWait : Ops Rented → Wait → Type 0
 IsGoneWait ops (Room room) = Unit {0}
 IsGoneWait ops (Waiting op) = Holds ops op → ⊥
 
--- Two jobs don't wait for the same operation.
+-- Two jobs don't wait for the same operation: those that they wait for have other numbers.
 abbrev pub ApartWaits : Wait → Wait → Type 0
-ApartWaits (Waiting one) (Waiting other) = one ≢ other
+ApartWaits (Waiting one) (Waiting other) = number_of one ≢ number_of other
 ApartWaits (Waiting one) (Room room) = Unit {0}
 ApartWaits (Room room) other = Unit {0}
 

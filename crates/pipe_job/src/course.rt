@@ -45,6 +45,13 @@ impl Course {
         }
     }
 
+    // The number of the pipe.
+    pub(crate) fn pipe(&self) -> u64
+        ensures { result ≡ self.now.pipe }
+    {
+        self.pipe.number()
+    }
+
     // All bytes were sent.
     pub(crate) fn is_sent(&self) -> bool
         ensures { IsTrue result ↔ (self.now.sent ≡ length self.now.bytes) }

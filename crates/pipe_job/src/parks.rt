@@ -1,11 +1,13 @@
 //! A park of the driver beside a sleeper, and a turn of an executor of such jobs.
 ghost use Rattle.std.specs.Prelude.{◌≡◌, ◌<◌, ◌≤◌, ◌+◌, ◌^◌, ℕ, List, length, Some, IfOk, OnErr};
 ghost use Rattle.core_exec.specs.Turns.{Reaches};
-ghost use Rattle.core_exec.specs.Exec.{IsSound, KeepsPlaces, MeetAims, Stands, TurnsTo, moment_of, ready_of, spawned_of, tasks_of};
-ghost use Rattle.core_exec.specs.Exec.{turns_of};
+ghost use Rattle.core_exec.specs.Tasks.{AreWaiting};
+ghost use Rattle.core_exec.specs.Exec.{IsSound, KeepsPlaces, MeetAims, NoneForgotten, Stands, TurnsTo, moment_of, ready_of, spawned_of};
+ghost use Rattle.core_exec.specs.Exec.{tasks_of, turns_of};
 ghost use Rattle.exec_wake.specs.Wakes.{named_by};
 ghost use Rattle.op_job.specs.Met.{MissesNone};
 ghost use Rattle.ready_driver.specs.LegacyTurns.{DrainsFor, LegacyTurns};
+ghost use Rattle.pipe_job.specs.Awaits.{WaitsPipe};
 ghost use Rattle.pipe_job.specs.PipeJob.{FitsPipe, ApartPipes, IsAim, aim_of, cancels_of, polls_of};
 
 use crate::turns::PipeExec;
@@ -20,7 +22,7 @@ use std::time::Clock;
 use wake_core::Sleeper;
 
 // A park of the driver.
-#[tactic(auto, using(crate::proofs::Frames::kept_sound))]
+#[tactic(auto, using(crate::proofs::Frames::kept_sound, crate::proofs::Going::turned_waits))]
 fn park_driver<I: NonBlock, P: Ledger, D: Ledger, T: Wait + Clock>(
     exec: &mut PipeExec<I>,
     rt: &T,
@@ -36,6 +38,8 @@ fn park_driver<I: NonBlock, P: Ledger, D: Ledger, T: Wait + Clock>(
     ensures drains { DrainsFor result.turned.stop (Some millis) sleeper.old sleeper.new result.remote }
     ensures aims { (aims : ℕ → List ℕ) → MeetAims aim_of IsAim aims exec.old → MeetAims aim_of IsAim aims exec.new }
     ensures turns { LegacyTurns I.view I.tells I.reporting I.memory exec.old.driver exec.new.driver result.turned }
+    ensures waits { NoneForgotten WaitsPipe exec.old → (now : ℕ)
+        → AreWaiting WaitsPipe exec.new.driver (ready_of now (named_by result) exec.new) }
 {
     exec.driver.park_timeout(rt, sleeper, millis)
 }
@@ -65,6 +69,8 @@ pub fn park<I: NonBlock, P: Ledger, D: Ledger, T: Wait + Clock>(
     ensures places { KeepsPlaces exec.old exec.new }
     ensures spawned { spawned_of exec.new ≡ spawned_of exec.old }
     ensures marked { OnErr result.1 ((t : ℕ) → tasks_of exec.new t ≡ ready_of now (named_by result.0) exec.old t) }
+    // No job that is pending is forgotten.
+    ensures waits { NoneForgotten WaitsPipe exec.old → NoneForgotten WaitsPipe exec.new }
     // It comes to each task whose operation waits in its pipe's list and can go on.
     ensures misses { IfOk result.1 (MissesNone I.view I.tells I.reporting I.memory exec.old.driver result.0.turned (tasks_of exec.old)) }
     // The wakers of the answer are those that the sleeper drained, in its order.

@@ -2,7 +2,7 @@
 ghost use Rattle.std.specs.Prelude.{◌≡◌, ◌<◌, ◌+◌, ◌^◌, ℕ, OnErr, OnOk};
 ghost use Rattle.core_exec.specs.Job.{IfBack, IfPending, Steps};
 ghost use Rattle.ready_driver.specs.LegacyState.{ops_in};
-ghost use Rattle.pipe_job.specs.Awaits.{AwaitsBy, AwaitsJob};
+ghost use Rattle.pipe_job.specs.Awaits.{AwaitsBy, AwaitsJob, KeepsWaiting, WaitsPipe};
 ghost use Rattle.pipe_job.specs.PipeJob.{FitsPipe, ApartPipes, IsIdle, IsAim, aim_of, cancels_of, polls_of};
 ghost use Rattle.pipe_job.specs.PipeJob.{AsksPipe, AsksWait, EndsJob, FitsEach, HoldsPipe, IsGonePipe, WaitsJob};
 ghost use Rattle.pipe_job.specs.Course.{IsSameBytes};
@@ -10,7 +10,7 @@ ghost use Rattle.pipe_job.specs.Steps.{IfWhole, IsWhole, StepsTo, as_step};
 ghost use Rattle.pipe_job.specs.Waits.{FitsWait, HoldsWait, IsGoneWait, KeepsApart, apart_swaps, idle_apart};
 
 use crate::course::Course;
-use crate::step::{Step, Wait, advance};
+use crate::step::{Step, Wait, advance, drop_op};
 use core_exec::{Job, JobStep};
 use ready_driver::{LegacyDriver, NonBlock};
 use rent_buf::{ByteList, IoFault, OutOfMemory, Rent};
@@ -49,6 +49,9 @@ impl PipeJob {
         requires fits { HoldsPipe driver.old self }
         ensures gone { IsGonePipe driver.new self }
         ensures others { (other : PipeJob) → HoldsPipe driver.old other → ApartPipes self other → HoldsPipe driver.new other }
+        // One that waits, waits still.
+        ensures stays { (other : PipeJob) (s : ℕ) → HoldsPipe driver.old other → ApartPipes self other → WaitsPipe driver.old s other
+            → WaitsPipe driver.new s other }
     {
         let PipeJob {
             course: _,
@@ -61,15 +64,16 @@ impl PipeJob {
 }
 
 // Drops what a job waits for.
-#[tactic(auto, using(crate::proofs::Frames::same_fit, crate::proofs::Frames::dropped_apart))]
+#[tactic(auto, using(crate::proofs::Frames::same_fit, crate::proofs::Staying::same_stays))]
 fn drop_wait<I: NonBlock>(driver: &mut LegacyDriver<I, Rent>, wait: Wait)
     requires fits { HoldsWait (ops_in driver.old) wait }
     ensures gone { IsGoneWait (ops_in driver.new) wait }
     ensures others { KeepsApart (ops_in driver.old) (ops_in driver.new) wait }
+    ensures stays { KeepsWaiting driver.old driver.new wait }
 {
     match wait {
         Wait::Room(_) => {}
-        Wait::Waiting(op) => driver.drop_op(op),
+        Wait::Waiting(op) => drop_op(driver, op),
     }
 }
 
@@ -104,8 +108,8 @@ fn run<I: NonBlock>(
 ) -> JobStep<Wait, Result<(), IoFault>>
     requires fits { FitsWait (ops_in driver.old) course.old.pipe cancels wait }
     ensures same { IsSameBytes course.old course.new }
-    ensures steps { StepsTo I.view course.old.pipe cancels driver.old driver.new wait (as_step result) }
-    ensures awaits { AwaitsBy I.files I.view I.tells driver.new course.old.pipe task (as_step result) }
+    ensures steps { StepsTo I.files I.view I.tells course.old.pipe cancels driver.old driver.new wait (as_step result) }
+    ensures awaits { AwaitsBy driver.new course.old.pipe task (as_step result) }
     ensures whole { IfWhole (as_step result) (IsWhole course.new) }
 {
     let mut wait = wait;
@@ -132,8 +136,7 @@ impl<I: NonBlock> Job<LegacyDriver<I, Rent>> for PipeJob {
 
     ghost fits = { FitsPipe };
 
-    // What it waits for in the driver isn't said.
-    ghost waits = { λ driver task job. Unit {0} };
+    ghost waits = { WaitsPipe };
 
     ghost apart = { ApartPipes };
 
@@ -143,6 +146,7 @@ impl<I: NonBlock> Job<LegacyDriver<I, Rent>> for PipeJob {
 
     ghost apart_idle = { λ one other idle. idle_apart one.wait other.wait idle };
 
+    #[tactic(auto, using(crate::proofs::Staying::left_waits))]
     fn poll(
         self,
         driver: &mut LegacyDriver<I, Rent>,
@@ -155,13 +159,14 @@ impl<I: NonBlock> Job<LegacyDriver<I, Rent>> for PipeJob {
         ensures others { (other : PipeJob) (s : ℕ) → FitsPipe driver.old s other → ApartPipes self other → FitsPipe driver.new s other }
         ensures apart { IfBack result (λ job. (other : PipeJob) (s : ℕ) → FitsPipe driver.old s other → ApartPipes self other
             → ApartPipes job other) }
-        ensures left_waiting { IfPending result (λ job. Unit {0}) }
-        ensures stays { (other : PipeJob) (s : ℕ) → FitsPipe driver.old s other → ApartPipes self other → Unit {0} → Unit {0} }
+        ensures left_waiting { IfPending result (WaitsPipe driver.new task) }
+        ensures stays { (other : PipeJob) (s : ℕ) → FitsPipe driver.old s other → ApartPipes self other → WaitsPipe driver.old s other
+            → WaitsPipe driver.new s other }
         // Each fault has its cause, and it is pending only where more can't be done at once.
-        ensures ends { EndsJob I.view driver.old driver.new self result }
+        ensures ends { EndsJob I.files I.view I.tells driver.old driver.new self result }
         ensures waits { WaitsJob I.view driver.old driver.new result }
         // One that is pending waits with its task in the list of its pipe.
-        ensures awaits { AwaitsJob I.files I.view I.tells driver.new task result }
+        ensures awaits { AwaitsJob driver.new task result }
     {
         let PipeJob {
             course,
@@ -189,7 +194,7 @@ impl<I: NonBlock> Job<LegacyDriver<I, Rent>> for PipeJob {
         }
     }
 
-    #[tactic(auto, using(crate::proofs::Frames::fits_holds))]
+    #[tactic(auto, using(crate::proofs::Frames::fits_holds, crate::proofs::Staying::asked_stays, crate::proofs::Staying::asked_waits))]
     fn cancel(&mut self, driver: &mut LegacyDriver<I, Rent>) -> Result<(), OutOfMemory>
         requires fits { (s : ℕ) × FitsPipe driver.old s self.old }
         requires counter { cancels_of self.old < 2 ^ 62 }
@@ -202,9 +207,12 @@ impl<I: NonBlock> Job<LegacyDriver<I, Rent>> for PipeJob {
             → FitsPipe driver.new s other }
         ensures apart { (other : PipeJob) (s : ℕ) → FitsPipe driver.old s other → ApartPipes self.old other
             → ApartPipes self.new other }
-        ensures stays { (other : PipeJob) (s : ℕ) → FitsPipe driver.old s other → ApartPipes self.old other → Unit {0} → Unit {0} }
+        ensures stays { (other : PipeJob) (s : ℕ) → FitsPipe driver.old s other → ApartPipes self.old other → WaitsPipe driver.old s other
+            → WaitsPipe driver.new s other }
         // The driver is asked for the cancel of the operation that it waits for.
         ensures asks { AsksPipe driver.old driver.new self.old result }
+        // If it waits, it waits still: the next turn of the driver names its task.
+        ensures waits { (s : ℕ) → WaitsPipe driver.old s self.old → WaitsPipe driver.new s self.new }
     {
         cancel_wait(driver, &self.course, &self.wait, self.cancels)?;
         self.cancels += 1;

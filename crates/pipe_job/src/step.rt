@@ -1,18 +1,18 @@
 // One step of a poll: a submission, or the poll of an operation.
-ghost use Rattle.std.specs.Prelude.{◌<◌, ◌+◌, None, IsTrue, IfOk, IfErr};
+ghost use Rattle.std.specs.Prelude.{◌≡◌, ◌<◌, ◌+◌, None, IsTrue, IfOk, IfErr};
 ghost use Rattle.ring_core.specs.Request.{named};
-ghost use Rattle.driver_core.specs.Op.{AddsToken};
+ghost use Rattle.driver_core.specs.Op.{AddsToken, Holds};
 ghost use Rattle.ready_driver.specs.LegacyState.{holds_all, ops_in};
 ghost use Rattle.ready_driver.specs.LegacyCalls.{JoinsOp, SubmitRefused};
 ghost use Rattle.ready_driver.specs.Io.{IsLater};
-ghost use Rattle.pipe_job.specs.Awaits.{AwaitsBy, AwaitsNone};
+ghost use Rattle.pipe_job.specs.Awaits.{AwaitsBy, AwaitsNone, KeepsWaiting};
 ghost use Rattle.pipe_job.specs.Course.{IsSameBytes, left_of};
 ghost use Rattle.pipe_job.specs.Waits.{FitsWait, IfBack, IfAgain, KeepsApart, StaysApart, most_steps};
 ghost use Rattle.pipe_job.specs.Causes.{StepEndsFor, WaitsBy};
 ghost use Rattle.pipe_job.specs.Steps.{IfWhole, IsWhole, StepFor, StepsTo};
 
 use crate::course::Course;
-use driver_core::{MOST_GIVEN, Op, PollOp, SubmitError, SubmitFault, Submitted};
+use driver_core::{Done, MOST_GIVEN, Op, PollOp, SubmitError, SubmitFault, Submitted};
 use ready_driver::{LegacyDriver, NonBlock};
 use rent_buf::{IoFault, Rent, VecBuf};
 use ring_core::{CANCELED, Request};
@@ -20,7 +20,7 @@ use ring_core::{CANCELED, Request};
 /// The error of a job whose pipe its user doesn't hold. (Linux: `EBADF`)
 pub const NOT_HELD: u16 = 9;
 
-// The error of a driver that takes no further operation. (Linux: `EAGAIN`)
+// The error of a driver that takes no further operation, and of a call on a file that would have blocked. (Linux: `EAGAIN`)
 pub(crate) const AGAIN: u16 = 11;
 
 // What a job waits for.
@@ -69,7 +69,7 @@ fn submit_alone<I: NonBlock>(
 }
 
 // Submits the next operation of a job.
-#[tactic(auto, using(crate::proofs::Frames::same_fit, crate::proofs::Frames::all_apart, crate::proofs::Frames::submitted_keeps, crate::proofs::Frames::submitted_own, crate::proofs::Frames::submitted_apart, crate::proofs::Submitting::moves_named, crate::proofs::Submitting::joined_later, crate::proofs::Submitting::refused_later, crate::proofs::Submitting::refused_full))]
+#[tactic(auto, using(crate::proofs::Frames::same_fit, crate::proofs::Frames::all_apart, crate::proofs::Frames::submitted_keeps, crate::proofs::Frames::submitted_own, crate::proofs::Frames::submitted_apart, crate::proofs::Submitting::moves_named, crate::proofs::Submitting::joined_later, crate::proofs::Submitting::refused_later, crate::proofs::Submitting::refused_full, crate::proofs::Staying::same_stays))]
 fn submit<I: NonBlock>(
     driver: &mut LegacyDriver<I, Rent>,
     course: &Course,
@@ -80,7 +80,8 @@ fn submit<I: NonBlock>(
     ensures others { KeepsApart (ops_in driver.old) (ops_in driver.new) (Wait.Room room) }
     ensures apart { IfBack result (StaysApart (ops_in driver.old) (Wait.Room room)) }
     ensures later { IsLater (I.view driver.old.handling.io) (I.view driver.new.handling.io) }
-    ensures ends { StepEndsFor I.view course.now.pipe cancels driver.old driver.new result }
+    ensures stays { KeepsWaiting driver.old driver.new (Wait.Room room) }
+    ensures ends { StepEndsFor I.files I.view I.tells course.now.pipe cancels driver.old driver.new result }
     ensures waits { WaitsBy I.view driver.old driver.new result }
     ensures awaits { AwaitsNone result }
     ensures less { IfAgain result (λ next. most_steps course.now next < most_steps course.now (Wait.Room room)) }
@@ -111,22 +112,34 @@ fn submit<I: NonBlock>(
     }
 }
 
-// The step that follows what the poll of a job's operation answered.
-fn answered(course: &mut Course, answer: PollOp<Rent>) -> Step
+// The step that follows a job's operation that ended.
+fn ended(course: &mut Course, done: Done<Rent>) -> Step
     ensures same { IsSameBytes course.old course.new }
-    ensures step { StepFor answer result }
+    ensures step { StepFor done result }
     ensures less { IfAgain result (λ next. most_steps course.new next < left_of course.old + left_of course.old) }
 {
-    match answer {
-        PollOp::Pending(op) => Step::Pending(Wait::Waiting(op)),
-        PollOp::Ready(done) => match course.take_in(done) {
-            Ok(room) => Step::Again(Wait::Room(room)),
-            Err(fault) => Step::Ended(Err(fault)),
-        },
+    match course.take_in(done) {
+        Ok(room) => Step::Again(Wait::Room(room)),
+        Err(fault) => Step::Ended(Err(fault)),
     }
 }
 
-// Polls the operation of a job.
+// Drops an operation.
+#[tactic(auto, using(crate::proofs::Frames::dropped_apart, crate::proofs::Staying::dropped_stays))]
+pub(crate) fn drop_op<I: NonBlock>(driver: &mut LegacyDriver<I, Rent>, op: Op)
+    requires held { Holds (ops_in driver.old) op }
+    ensures gone { Holds (ops_in driver.new) op → ⊥ }
+    ensures others { KeepsApart (ops_in driver.old) (ops_in driver.new) (Wait.Waiting op) }
+    ensures stays { KeepsWaiting driver.old driver.new (Wait.Waiting op) }
+    ensures later { IsLater (I.view driver.old.handling.io) (I.view driver.new.handling.io) }
+    ensures world { IsTrue I.tells → (I.view driver.new.handling.io).world ≡ (I.view driver.old.handling.io).world }
+{
+    driver.drop_op(op);
+    driver.given();
+}
+
+// Polls the operation of a job. Nothing is reported of a file: where a call on one would have blocked nothing would name the task, so the
+// operation is dropped.
 fn poll_op<I: NonBlock>(
     driver: &mut LegacyDriver<I, Rent>,
     course: &mut Course,
@@ -136,13 +149,23 @@ fn poll_op<I: NonBlock>(
 ) -> Step
     requires fits { FitsWait (ops_in driver.old) course.old.pipe cancels (Wait.Waiting op) }
     ensures same { IsSameBytes course.old course.new }
-    ensures steps { StepsTo I.view course.old.pipe cancels driver.old driver.new (Wait.Waiting op) result }
-    ensures awaits { AwaitsBy I.files I.view I.tells driver.new course.old.pipe task result }
+    ensures steps { StepsTo I.files I.view I.tells course.old.pipe cancels driver.old driver.new (Wait.Waiting op) result }
+    ensures awaits { AwaitsBy driver.new course.old.pipe task result }
     ensures less { IfAgain result (λ next. most_steps course.new next < most_steps course.old (Wait.Waiting op)) }
     ensures whole { IfWhole result (IsWhole course.new) }
 {
-    match driver.poll_op(op, task) {
-        Ok(answer) => answered(course, answer),
+    let is_file = driver.io().is_file(course.pipe());
+    let answer = driver.poll_op(op, task);
+    driver.given();
+    match answer {
+        Ok(PollOp::Pending(op)) => {
+            if is_file {
+                drop_op(driver, op);
+                return Step::Ended(Err(IoFault::Os(AGAIN)));
+            }
+            Step::Pending(Wait::Waiting(op))
+        }
+        Ok(PollOp::Ready(done)) => ended(course, done),
         Err((_, op)) => Step::OutOfMemory(Wait::Waiting(op)),
     }
 }
@@ -157,8 +180,8 @@ pub(crate) fn advance<I: NonBlock>(
 ) -> Step
     requires fits { FitsWait (ops_in driver.old) course.old.pipe cancels wait }
     ensures same { IsSameBytes course.old course.new }
-    ensures steps { StepsTo I.view course.old.pipe cancels driver.old driver.new wait result }
-    ensures awaits { AwaitsBy I.files I.view I.tells driver.new course.old.pipe task result }
+    ensures steps { StepsTo I.files I.view I.tells course.old.pipe cancels driver.old driver.new wait result }
+    ensures awaits { AwaitsBy driver.new course.old.pipe task result }
     ensures less { IfAgain result (λ next. most_steps course.new next < most_steps course.old wait) }
     ensures whole { IfWhole result (IsWhole course.new) }
 {

@@ -1,10 +1,12 @@
 // A turn of the driver, and one of an executor of such jobs.
 ghost use Rattle.std.specs.Prelude.{◌≡◌, ◌<◌, ◌≤◌, ◌+◌, ◌^◌, ℕ, List, true, false, IfOk, OnErr};
 ghost use Rattle.core_exec.specs.Turns.{Reaches};
-ghost use Rattle.core_exec.specs.Exec.{IsSound, KeepsPlaces, MeetAims, Stands, TurnsTo, left_of, moment_of, ready_of, spawned_of, tasks_of};
-ghost use Rattle.core_exec.specs.Exec.{turns_of};
+ghost use Rattle.core_exec.specs.Tasks.{AreWaiting};
+ghost use Rattle.core_exec.specs.Exec.{IsSound, KeepsPlaces, MeetAims, NoneForgotten, Stands, TurnsTo, left_of, moment_of, ready_of};
+ghost use Rattle.core_exec.specs.Exec.{spawned_of, tasks_of, turns_of};
 ghost use Rattle.op_job.specs.Met.{MissesNone};
 ghost use Rattle.ready_driver.specs.LegacyTurns.{LegacyTurns};
+ghost use Rattle.pipe_job.specs.Awaits.{WaitsPipe};
 ghost use Rattle.pipe_job.specs.PipeJob.{FitsPipe, ApartPipes, IsAim, aim_of, cancels_of, polls_of};
 
 use crate::pipe_job::PipeJob;
@@ -17,7 +19,7 @@ use rent_buf::{ByteList, IoFault, OutOfMemory, Rent};
 pub type PipeExec<I> = Exec<LegacyDriver<I, Rent>, PipeJob, Result<ByteList, IoFault>>;
 
 // A turn of the driver.
-#[tactic(auto, using(crate::proofs::Frames::kept_sound))]
+#[tactic(auto, using(crate::proofs::Frames::kept_sound, crate::proofs::Going::turned_waits))]
 fn turn_driver<I: NonBlock>(exec: &mut PipeExec<I>) -> Turned
     requires sound { IsSound FitsPipe ApartPipes exec.old }
     ensures sound { IsSound FitsPipe ApartPipes exec.new }
@@ -26,6 +28,8 @@ fn turn_driver<I: NonBlock>(exec: &mut PipeExec<I>) -> Turned
     ensures numbers { (exec.new.spawned ≡ exec.old.spawned) × (exec.new.turns ≡ exec.old.turns) }
     ensures aims { (aims : ℕ → List ℕ) → MeetAims aim_of IsAim aims exec.old → MeetAims aim_of IsAim aims exec.new }
     ensures turns { LegacyTurns I.view I.tells I.reporting I.memory exec.old.driver exec.new.driver result }
+    ensures waits { NoneForgotten WaitsPipe exec.old → (now : ℕ)
+        → AreWaiting WaitsPipe exec.new.driver (ready_of now result.woken exec.new) }
 {
     exec.driver.submit()
 }
@@ -47,6 +51,8 @@ pub fn turn<I: NonBlock>(exec: &mut PipeExec<I>, now: u64) -> (Turned, Result<Ra
     ensures places { KeepsPlaces exec.old exec.new }
     ensures spawned { spawned_of exec.new ≡ spawned_of exec.old }
     ensures marked { OnErr result.1 ((t : ℕ) → tasks_of exec.new t ≡ ready_of now result.0.woken exec.old t) }
+    // No job that is pending is forgotten.
+    ensures waits { NoneForgotten WaitsPipe exec.old → NoneForgotten WaitsPipe exec.new }
     // It comes to each task whose operation waits in its pipe's list and can go on.
     ensures misses { IfOk result.1 (MissesNone I.view I.tells I.reporting I.memory exec.old.driver result.0 (tasks_of exec.old)) }
 {

@@ -22,3 +22,7 @@ returns-clause-misses g c =
     (subst (λ ready. IfOk c.turn_parked-ran.result (λ ran. Reaches (ready_tasks c.args.now (named_by parked) (task_at ready.table))
     (tasks_of c.turn_parked-ran.new.exec) ran.polled.items ran.stopped)) c.park_driver-parked.ensures.ready
     c.turn_parked-ran.ensures.reaches)
+
+-- the park names a task or leaves it waiting, and so does the executor's turn
+pub returns-clause-waits : goal.returns-clause-waits
+returns-clause-waits g c = λ waiting. c.turn_parked-ran.ensures.waits (c.park_driver-parked.ensures.waits waiting c.args.now)

@@ -1,6 +1,7 @@
 use Rattle.ready_driver.specs.LegacyState.{ops_in}
 use Rattle.pipe_job.specs.declared.step.Wait.TheVariants.{Room}
 use Rattle.pipe_job.proofs.Frames.{submitted_keeps, submitted_own}
+use Rattle.pipe_job.proofs.Staying.{refused_stays, submitted_stays}
 use Rattle.pipe_job.proofs.step.submit.Goals as goal
 
 pub returns-in-Ok-submit_alone-clause-fits : goal.returns-in-Ok-submit_alone-clause-fits
@@ -12,3 +13,21 @@ pub returns-in-Ok-submit_alone-clause-others : goal.returns-in-Ok-submit_alone-c
 returns-in-Ok-submit_alone-clause-others g c = submitted_keeps (ops_in c.args.driver.now) (ops_in c.submit_alone.new.driver)
     c.in-Ok-submit_alone.op c.request-request.result (Room c.args.room) c.in-Ok-submit_alone.ensures.token
     c.in-Ok-submit_alone.ensures.joins.slots
+
+-- a submission leaves the others waiting, also one that is refused
+pub returns-in-Ok-submit_alone-clause-stays : goal.returns-in-Ok-submit_alone-clause-stays
+returns-in-Ok-submit_alone-clause-stays g c = submitted_stays g.I.NonBlock.view g.I.NonBlock.tells g.I.NonBlock.memory c.args.driver.now
+    c.submit_alone.new.driver c.request-request.result c.in-Ok-submit_alone.op (Room c.args.room) c.in-Ok-submit_alone.ensures.token
+    c.in-Ok-submit_alone.ensures.joins
+
+pub returns-in-Full-clause-stays : goal.returns-in-Full-clause-stays
+returns-in-Full-clause-stays g c = refused_stays g.I.NonBlock.view g.I.NonBlock.tells g.I.NonBlock.memory c.args.driver.now
+    c.submit_alone.new.driver c.request-request.result c.in-Err-submit_alone.refused (Room c.args.room) c.in-Err-submit_alone.ensures.err
+
+pub returns-in-OutOfMemory-clause-stays : goal.returns-in-OutOfMemory-clause-stays
+returns-in-OutOfMemory-clause-stays g c = refused_stays g.I.NonBlock.view g.I.NonBlock.tells g.I.NonBlock.memory c.args.driver.now
+    c.submit_alone.new.driver c.request-request.result c.in-Err-submit_alone.refused (Room c.args.room) c.in-Err-submit_alone.ensures.err
+
+pub returns-in_default-clause-stays : goal.returns-in_default-clause-stays
+returns-in_default-clause-stays g c = refused_stays g.I.NonBlock.view g.I.NonBlock.tells g.I.NonBlock.memory c.args.driver.now
+    c.submit_alone.new.driver c.request-request.result c.in-Err-submit_alone.refused (Room c.args.room) c.in-Err-submit_alone.ensures.err

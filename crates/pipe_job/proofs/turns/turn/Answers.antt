@@ -1,10 +1,11 @@
-use Rattle.std.proofs.Common.{subst}
+use Rattle.std.proofs.Common.{sym, subst}
 use Rattle.std.specs.Prelude.{IfOk}
-use Rattle.core_exec.specs.Exec.{tasks_of}
+use Rattle.core_exec.specs.Exec.{ready_of, tasks_of}
 use Rattle.core_exec.specs.Marks.{ready_tasks}
-use Rattle.core_exec.specs.Tasks.{task_at}
+use Rattle.core_exec.specs.Tasks.{AreWaiting, task_at}
 use Rattle.core_exec.specs.Turns.{Reaches}
 use Rattle.op_job.proofs.Reached.{has_in, misses_if}
+use Rattle.pipe_job.specs.Awaits.{WaitsPipe}
 use Rattle.pipe_job.proofs.turns.turn.Goals as goal
 
 pub returns-clause-aims : goal.returns-clause-aims
@@ -22,3 +23,10 @@ returns-clause-misses g c =
     (tasks_of c.turn-ran.new.self) ran.polled.items ran.stopped)) c.turn_driver-turned.ensures.ready
     (subst (λ named. IfOk c.turn-ran.result (λ ran. Reaches (ready_tasks c.args.now named (task_at mid.ready.table))
     (tasks_of c.turn-ran.new.self) ran.polled.items ran.stopped)) c.as_slice.ensures c.turn-ran.ensures.reaches))
+
+-- the driver's turn names a task or leaves it waiting, and so does the executor's
+pub returns-clause-waits : goal.returns-clause-waits
+returns-clause-waits g c = λ waiting.
+    c.turn-ran.ensures.waits
+    (subst (λ named. AreWaiting WaitsPipe c.turn_driver-turned.new.exec.driver (ready_of c.args.now named c.turn_driver-turned.new.exec))
+    (sym c.as_slice.ensures) (c.turn_driver-turned.ensures.waits waiting c.args.now))
