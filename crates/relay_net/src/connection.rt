@@ -7,7 +7,6 @@ ghost use Rattle.ready_driver.specs.Registry.{is_users};
 ghost use Rattle.relay_net.specs.Connection.{EndsConnection, FitsConnection, FitsBack, FollowsAs, IsGoing, IsLostAs, IsOver, IsOverIf};
 ghost use Rattle.relay_net.specs.Connection.{Releases, Serves};
 ghost use Rattle.relay_net.specs.Connection.{far_of, held_back, held_forth, near_of};
-ghost use Rattle.relay_net.specs.Flow.{FitsStage};
 
 use crate::flow::{Came, Flow, Reads, abandon, step};
 use crate::round::{Lost, RelayError};

@@ -36,7 +36,7 @@ pub(crate) fn has_number<I: Sockets>(driver: &LegacyDriver<I, Buf>) -> bool
 }
 
 // A connection to a port, whose handle is new. Where the next handle's number can't be new, none is dialled.
-#[tactic(auto, using(crate::proofs::Opens::none_widens))]
+#[tactic(auto, using(crate::proofs::Opened::none_widens))]
 fn dial<I: Sockets>(driver: &mut LegacyDriver<I, Buf>, port: u16) -> Result<SharedFd, NonBlockError>
     ensures widens { Widens I.view I.tells driver.old driver.new }
     ensures ops { KeepsOps AnyRequest (ops_in driver.old) (ops_in driver.new) }
@@ -58,7 +58,7 @@ fn dial<I: Sockets>(driver: &mut LegacyDriver<I, Buf>, port: u16) -> Result<Shar
 pub struct Mirror;
 
 impl<I: Sockets> Far<I> for Mirror {
-    #[tactic(auto, using(crate::proofs::Opens::none_widens))]
+    #[tactic(auto, using(crate::proofs::Opened::none_widens))]
     fn far(
         &mut self,
         driver: &mut LegacyDriver<I, Buf>,

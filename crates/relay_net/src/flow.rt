@@ -18,7 +18,7 @@ use driver_core::{Done, MOST_GIVEN, Op, PollOp, SubmitError, SubmitFault};
 use handle_core::SharedFd;
 use op_driver::OpDriver;
 use ready_driver::{LegacyDriver, NonBlock};
-use rent_buf::{Buf, IoBuf, IoBufMut, OutOfMemory, Rent, SliceMut, VecBuf};
+use rent_buf::{Buf, IoBuf as _, IoBufMut, OutOfMemory, Rent, SliceMut, VecBuf};
 use ring_core::{Outcome, Request};
 use std::alloc::Global;
 use std::mem;
@@ -422,7 +422,7 @@ fn drop_send<I: NonBlock>(driver: &mut Reads<I>, op: Op, count: usize, from: Sha
 }
 
 // Drops what waits.
-#[tactic(auto, using(crate::proofs::Flows::still_abandons))]
+#[tactic(auto, using(crate::proofs::Outcomes::still_abandons))]
 pub(crate) fn abandon<I: NonBlock>(
     driver: &mut Reads<I>,
     from: SharedFd,

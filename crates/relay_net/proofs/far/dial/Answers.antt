@@ -1,6 +1,6 @@
 use Rattle.std.proofs.Common.{ap}
 use Rattle.std.specs.FinMap as map
-use Rattle.relay_net.proofs.Opens.{opened_widens, unopened_widens}
+use Rattle.relay_net.proofs.Opened.{opened_widens, unopened_widens}
 use Rattle.relay_net.proofs.far.dial.Goals as goal
 
 pub returns-in-Ok-clause-widens : goal.returns-in-Ok-clause-widens

@@ -1,5 +1,6 @@
 use Rattle.relay_net.specs.Flow.{IsReceive}
-use Rattle.relay_net.proofs.Flows.{dropped_abandons, receive_apart}
+use Rattle.relay_net.proofs.Flows.{receive_apart}
+use Rattle.relay_net.proofs.Outcomes.{dropped_abandons}
 use Rattle.relay_net.proofs.flow.drop_receive.Goals as goal
 
 pub returns-clause-drops : goal.returns-clause-drops

@@ -1,5 +1,6 @@
 use Rattle.relay_net.specs.Flow.{IsSend}
-use Rattle.relay_net.proofs.Flows.{dropped_abandons, send_apart}
+use Rattle.relay_net.proofs.Flows.{send_apart}
+use Rattle.relay_net.proofs.Outcomes.{dropped_abandons}
 use Rattle.relay_net.proofs.flow.drop_send.Goals as goal
 
 pub returns-clause-drops : goal.returns-clause-drops

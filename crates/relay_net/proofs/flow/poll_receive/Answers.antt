@@ -1,7 +1,7 @@
 use Rattle.std.proofs.Common.{Ok, subst}
 use Rattle.rent_buf.specs.Buf.{built}
 use Rattle.op_driver.specs.Legacy.{LegacyPolls}
-use Rattle.relay_net.proofs.Flows.{receive_ended, receive_stops, receive_waits}
+use Rattle.relay_net.proofs.Outcomes.{receive_ended, receive_stops, receive_waits}
 use Rattle.relay_net.proofs.flow.poll_receive.Goals as goal
 
 pub returns-in-Ok-Pending-clause-flows : goal.returns-in-Ok-Pending-clause-flows

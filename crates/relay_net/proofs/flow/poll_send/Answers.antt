@@ -1,7 +1,7 @@
 use Rattle.std.proofs.Common.{Ok, subst}
 use Rattle.rent_buf.specs.Buf.{built}
 use Rattle.op_driver.specs.Legacy.{LegacyPolls}
-use Rattle.relay_net.proofs.Flows.{send_ended, send_stops, send_waits}
+use Rattle.relay_net.proofs.Outcomes.{send_ended, send_stops, send_waits}
 use Rattle.relay_net.proofs.flow.poll_send.Goals as goal
 
 pub returns-in-Ok-Pending-clause-flows : goal.returns-in-Ok-Pending-clause-flows

@@ -1,7 +1,8 @@
 use Rattle.std.proofs.Common.{rules, ◌≡◌, None, subst, sym}
 use Rattle.ready_driver.specs.LegacyState.{ops_in}
 use Rattle.relay_net.specs.Relay.{FitsAccept}
-use Rattle.relay_net.proofs.Opens.{fresh_new, opening_widens, widens_sound}
+use Rattle.relay_net.proofs.Opens.{fresh_new, opening_widens}
+use Rattle.relay_net.proofs.Opened.{widens_sound}
 use Rattle.relay_net.proofs.opening.arrive.Goals as goal
 
 pub returns-in-Made-clause-arrives : goal.returns-in-Made-clause-arrives

@@ -1,7 +1,8 @@
 use Rattle.std.proofs.Common.{subst, sym}
 use Rattle.ready_driver.specs.LegacyState.{ops_in}
 use Rattle.relay_net.specs.Relay.{FitsAccept}
-use Rattle.relay_net.proofs.Opens.{opening_widens, stays_sound, stays_widens, widens_sound}
+use Rattle.relay_net.proofs.Opens.{opening_widens, stays_widens}
+use Rattle.relay_net.proofs.Opened.{stays_sound, widens_sound}
 use Rattle.relay_net.proofs.Listens.{at_hand_kept}
 use Rattle.relay_net.proofs.opening.begin_accept.Goals as goal
 

@@ -5,7 +5,8 @@ use Rattle.ready_driver.specs.LegacyState.{ops_in}
 use Rattle.relay_net.specs.Connection.{near_of}
 use Rattle.relay_net.specs.Opening.{Opening}
 use Rattle.relay_net.specs.Relay.{IsSound}
-use Rattle.relay_net.proofs.Opens.{fresh_kept, kept_sound, opened_sound, opening_pushed, opening_widens, released_opening, released_sound}
+use Rattle.relay_net.proofs.Opens.{fresh_kept, opening_pushed, opening_widens}
+use Rattle.relay_net.proofs.Opened.{kept_sound, opened_sound, released_opening, released_sound}
 use Rattle.relay_net.proofs.Numbers.{numbers_opened}
 use Rattle.relay_net.proofs.opening.open_one.Goals as goal
 

@@ -1,4 +1,4 @@
-use Rattle.relay_net.proofs.Opens.{accept_ends, accept_fails, accept_starves, accept_waits, accepted_for}
+use Rattle.relay_net.proofs.Opened.{accept_ends, accept_fails, accept_starves, accept_waits, accepted_for}
 use Rattle.relay_net.proofs.Listens.{accept_goes, accept_makes}
 use Rattle.relay_net.proofs.opening.poll_accept.Goals as goal
 

@@ -1,6 +1,7 @@
 use Rattle.std.proofs.Common.{subst, sym, []}
 use Rattle.relay_net.specs.Relay.{Serving, StopsUnless}
-use Rattle.relay_net.proofs.Opens.{none_opened, opening_serving}
+use Rattle.relay_net.proofs.Opens.{opening_serving}
+use Rattle.relay_net.proofs.Opened.{none_opened}
 use Rattle.relay_net.proofs.Relays.{stops_later}
 use Rattle.std.specs.Prelude.{OnOk}
 use Rattle.relay_net.specs.Listening.{IsAtHand}

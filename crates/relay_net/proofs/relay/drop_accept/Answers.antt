@@ -1,4 +1,4 @@
-use Rattle.relay_net.proofs.Opens.{dropped_widens}
+use Rattle.relay_net.proofs.Opened.{dropped_widens}
 use Rattle.relay_net.proofs.relay.drop_accept.Goals as goal
 
 pub returns : goal.returns

@@ -1,7 +1,8 @@
 use Rattle.std.proofs.Common.{◌∙◌, ap, arith, subst, sym, []}
 use Rattle.relay_net.specs.Relay.{Serving}
 use Rattle.relay_net.specs.Opening.{WasOpened}
-use Rattle.relay_net.proofs.Opens.{accept_within, opened_becomes, opening_serving, opening_starts}
+use Rattle.relay_net.proofs.Opens.{opening_serving, opening_starts}
+use Rattle.relay_net.proofs.Opened.{accept_within, opened_becomes}
 use Rattle.relay_net.proofs.Relays.{stops_later}
 use Rattle.relay_net.proofs.Listens.{on_ok}
 use Rattle.relay_net.proofs.relay.work.Goals as goal

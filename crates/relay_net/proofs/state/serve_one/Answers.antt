@@ -3,7 +3,8 @@ use Rattle.std.proofs.lemmas.Option.{slice_get_read}
 use Rattle.ready_driver.specs.LegacyState.{ops_in}
 use Rattle.relay_net.specs.Connection.{IsOverIf}
 use Rattle.relay_net.proofs.Places.{get_set}
-use Rattle.relay_net.proofs.Relays.{found_same, serving_set, sound_set}
+use Rattle.relay_net.proofs.Relays.{serving_set, sound_set}
+use Rattle.relay_net.proofs.Beside.{found_same}
 use Rattle.relay_net.proofs.Numbers.{numbers_set}
 use Rattle.relay_net.proofs.state.serve_one.Goals as goal
 

@@ -1,7 +1,8 @@
 use Rattle.std.proofs.Common.{rules, ◌≡◌, ◌<◌, ◌∙◌, ap, arith, length, subst, sym, []}
 use Rattle.relay_net.specs.Relay.{IsAmong, Serving}
 use Rattle.relay_net.specs.Relaying.{RoundStops, round_of}
-use Rattle.relay_net.proofs.Opens.{accept_within, none_opened, opening_serving, opening_starts}
+use Rattle.relay_net.proofs.Opens.{opening_serving, opening_starts}
+use Rattle.relay_net.proofs.Opened.{accept_within, none_opened}
 use Rattle.relay_net.specs.Opening.{AcceptFails, WasOpened}
 use Rattle.std.specs.Vec.{vec_len}
 use Rattle.relay_net.specs.Listening.{IsAtHand, MayListen}
