@@ -95,6 +95,7 @@ impl<I: Sockets> Echo<I> {
         sleeper: &mut Sleeper<P, D>,
         now: u64,
     ) -> Result<bool> {
+        self.idle.go_to(now);
         self.accept(now);
         let millis = if self.fresh { 0 } else { TICK };
         let round = self.jobs.round(rt, sleeper, self.alloc, now, millis)?;
@@ -103,7 +104,7 @@ impl<I: Sockets> Echo<I> {
             self.follow(end, now);
         }
         for task in round.polled {
-            self.put_off(task, now);
+            self.put_off(task);
         }
         for number in round.sent {
             self.hear(number, now);
@@ -152,7 +153,7 @@ impl<I: Sockets> Echo<I> {
         match end {
             JobEnd::Ended(served) => self.follow_served(served, now),
             JobEnd::Paused(request, serving) => match serving.work {
-                Work::Echoes => self.go_on(serving.fd, request, now),
+                Work::Echoes => self.go_on(serving.fd, request),
                 Work::Accepts => self.accept_later(now),
             },
         }
@@ -161,7 +162,7 @@ impl<I: Sockets> Echo<I> {
     // What follows an accept or a connection.
     fn follow_served(&mut self, served: Served, now: u64) {
         match served {
-            Served::Accepted(fd) => self.begin(fd, now),
+            Served::Accepted(fd) => self.begin(fd),
             Served::NotAccepted => self.accept_later(now),
             Served::Closed(fd) => self.close(fd, false),
             Served::Idle(fd) => self.close(fd, true),
@@ -169,21 +170,21 @@ impl<I: Sockets> Echo<I> {
     }
 
     // A connection was accepted: it is read. One that comes once the server is to end is closed.
-    fn begin(&mut self, fd: SharedFd, now: u64) {
+    fn begin(&mut self, fd: SharedFd) {
         self.accepts = None;
         if self.over.is_some() {
             return self.jobs.close(fd);
         }
         self.open = self.open.saturating_add(1);
         match Rent::with_total(self.alloc, SIZE) {
-            Ok(buf) => self.go_on(fd, Request::Recv { fd, buf }, now),
+            Ok(buf) => self.go_on(fd, Request::Recv { fd, buf }),
             Err(_) => self.close(fd, false),
         }
     }
 
     // A connection goes on with a request, until it is idle. If memory runs out, it is closed.
-    fn go_on(&mut self, fd: SharedFd, request: Asked, now: u64) {
-        let deadline = self.idle.deadline(now);
+    fn go_on(&mut self, fd: SharedFd, request: Asked) {
+        let deadline = self.idle.deadline();
         match self.spawn(request, Work::Echoes, fd, Some(deadline)) {
             Ok(_) => {}
             Err(_) => self.close(fd, false),
@@ -203,11 +204,11 @@ impl<I: Sockets> Echo<I> {
     }
 
     // A job was polled: if it is a connection's, that is idle later. Without memory it keeps the deadline that it has.
-    fn put_off(&mut self, task: u64, now: u64) {
-        if self.accepts == Some(task) || !self.idle.is_due(task, now) {
+    fn put_off(&mut self, task: u64) {
+        if self.accepts == Some(task) || !self.idle.is_due(task) {
             return;
         }
-        if self.jobs.put_off(task, self.idle.deadline(now)).is_ok() {
+        if self.jobs.put_off(task, self.idle.deadline()).is_ok() {
             self.idle.put_off(task);
         }
     }
