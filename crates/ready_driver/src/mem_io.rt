@@ -315,6 +315,8 @@ impl NonBlock for MemIo {
 
     ghost memory_tells = { λ told. told };
 
+    ghost memory_files = { λ told io h. refl };
+
     ghost memory_reports = { λ told. (told, λ io. refl) };
 
     ghost calls = { λ old request new now answer called. called };

@@ -172,6 +172,9 @@ pub trait NonBlock: Calls + Drop {
     // A world in memory shows its handles.
     ghost memory_tells: { IsTrue memory → IsTrue tells };
 
+    // Its files are those of that world.
+    ghost memory_files: { IsTrue memory → (io : Self) (h : ℕ) → files io h ≡ is_file_at (view io).world h };
+
     // It shows its reports: each handle that is due, if it is registered.
     ghost memory_reports: { IsTrue memory → IsTrue reporting ×
         ((io : Self) → (view io).reports ≡ reports_of (view io).world (view io).keys (view io).due) };
@@ -194,6 +197,8 @@ impl<N: NonBlock> NonBlock for &mut N {
     ghost memory = { N.memory };
 
     ghost memory_tells = { N.memory_tells };
+
+    ghost memory_files = { λ memory lent h. N.memory_files memory lent.now h };
 
     ghost memory_reports = { λ memory. ((N.memory_reports memory).0, λ lent. (N.memory_reports memory).1 lent.now) };
 

@@ -108,6 +108,8 @@ impl<'a, N: Sockets, P: NetPlaces> NonBlock for Lent<'a, N, P> {
 
     ghost memory_tells = { N.memory_tells };
 
+    ghost memory_files = { λ memory lent h. N.memory_files memory lent.net.now h };
+
     ghost memory_reports = { λ memory. ((N.memory_reports memory).0, λ lent. (N.memory_reports memory).1 lent.net.now) };
 
     ghost calls = { λ old request new now answer called. N.calls old.net.now request new.net.now now answer called };

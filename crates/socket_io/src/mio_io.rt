@@ -232,6 +232,8 @@ impl<R: Net + Drop> NonBlock for MioIo<R> {
 
     ghost memory_tells = { λ told. told };
 
+    ghost memory_files = { no-memory };
+
     ghost memory_reports = { no-memory };
 
     ghost calls = { λ old request new now answer called. called.calls };
