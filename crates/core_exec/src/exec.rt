@@ -176,13 +176,16 @@ impl<D, J: Job<D>> Exec<D, J, J::Out> {
 
     /// Gives an unfinished task this deadline in place of the one that it had, or none: the first turn at that moment or a later one that
     /// comes to it asks for its cancel, if it is unfinished then, unless that was asked for before. A number of no unfinished task is
-    /// ignored. If memory runs out nothing changes. (own: an idle deadline is put off so)
+    /// ignored. Memory may run out only for a deadline of an unfinished task, and then nothing changes. (own: an idle deadline is put off
+    /// so)
     #[tactic(auto, using(crate::proofs::Dating::aims_dated, crate::proofs::Dating::sound_dated, crate::proofs::Dating::placed_dated, crate::proofs::Dating::jobs_dated, crate::proofs::Dating::counted_dated, crate::proofs::Dating::numbers_dated, crate::proofs::Dating::there_dated, crate::proofs::Dating::waiting_dated))]
     pub fn set_deadline(&mut self, t: u64, deadline: Option<u64>) -> Result<(), OutOfMemory>
         requires stands { Stands J.polls J.cancels self.old }
         ensures stands { Stands J.polls J.cancels self.new }
         ensures ok { OnOk result ((s : ℕ) → tasks_of self.new s ≡ option_map (dated (s == t) deadline) (tasks_of self.old s)) }
         ensures err { OnErr result ((s : ℕ) → tasks_of self.new s ≡ tasks_of self.old s) }
+        ensures ignored { tasks_of self.old t ≡ None → IsOk result }
+        ensures free { deadline ≡ None → IsOk result }
         ensures kept { KeepsDriver self.old self.new }
         ensures numbers { (spawned_of self.new ≡ spawned_of self.old) × (left_of self.new ≡ left_of self.old) }
         ensures outputs { outputs_of self.new ≡ outputs_of self.old }

@@ -1,5 +1,5 @@
 // Unfinished tasks, a list of those that are marked, and the deadlines that are to come.
-ghost use Rattle.std.specs.Prelude.{◌≡◌, ◌≢◌, ◌<◌, ◌≤◌, ◌+◌, ◌==◌, ◌&&◌, ℕ, not, option_map, true, false, drop, OnErr, OnOk};
+ghost use Rattle.std.specs.Prelude.{◌≡◌, ◌≢◌, ◌<◌, ◌≤◌, ◌+◌, ◌==◌, ◌&&◌, ℕ, not, option_map, true, false, drop, IsOk, None, OnErr, OnOk};
 ghost use Rattle.std.specs.Ordering.{nat_cmp};
 ghost use Rattle.std.specs.List.Sorted.{IsSorted};
 ghost use Rattle.std.specs.Vec.{vec_len, vec_capacity};
@@ -175,6 +175,7 @@ impl<J> Ready<J> {
     // Sets a deadline of a number, if it is to have one.
     fn set_deadline(&mut self, t: u64, deadline: Option<u64>) -> Result<(), OutOfMemory>
         ensures ok { OnOk result (IsSetAt self.new.deadlines t deadline) }
+        ensures free { deadline ≡ None → IsOk result }
         ensures kept { KeepsSet self.old.deadlines self.new.deadlines }
         ensures same { (self.new.table ≡ self.old.table) × (self.new.marks ≡ self.old.marks) × (self.new.moment ≡ self.old.moment) }
         ensures numbers { self.new.numbers ≡ self.old.numbers }
@@ -198,6 +199,8 @@ impl<J> Ready<J> {
         ensures deadlines { HasDeadlines self.new }
         ensures ok { OnOk result ((s : ℕ) → task_at self.new.table s ≡ option_map (dated (s == t) deadline) (task_at self.old.table s)) }
         ensures err { OnErr result (self.new.table ≡ self.old.table) }
+        ensures ignored { task_at self.old.table t ≡ None → IsOk result }
+        ensures free { deadline ≡ None → IsOk result }
         ensures kept { (s : ℕ) → KeepsButDeadline (task_at self.old.table s) (task_at self.new.table s) }
         ensures len { hash_map_len self.new.table.map ≡ hash_map_len self.old.table.map }
         ensures numbers { self.new.numbers ≡ self.old.numbers }
