@@ -1,6 +1,6 @@
 -- A job that waits for its operation stands in its readiness driver, or the next turn names its task; and a turn comes to each other one.
 use Rattle.std.proofs.Common.{ℕ, ◌≡◌, ◌∙◌, ◌⊎◌, inl, inr, ap, sym, refl, subst, Bool, true, false, if◌then◌else◌, List, [], ◌∷◌}
-use Rattle.std.proofs.Common.{Option, Some, None, Ok, Err, option_map}
+use Rattle.std.proofs.Common.{Option, Some, None, Ok, Err}
 use Rattle.std.specs.Prelude.{◌||◌, IfOk, IsSome, IsTrue, Result, is_some}
 use Rattle.std.specs.FinMap.{get}
 use Rattle.std.specs.List.{Contains}
@@ -10,9 +10,10 @@ use Rattle.ring_core.specs.Attempt.{is_readable_at}
 use Rattle.ring_core.specs.Lists.{has_number}
 use Rattle.core_exec.specs.declared.table.Task.{Task}
 use Rattle.core_exec.specs.declared.turn.Ran.{Ran}
-use Rattle.core_exec.specs.Marks.{has_number as has_task, is_late, ready_tasks, with_mark}
+use Rattle.core_exec.specs.Marks.{has_number as has_task, is_late, ready_tasks}
 use Rattle.core_exec.specs.Tasks.{AreWaiting, job_in, mark_of}
 use Rattle.core_exec.specs.Turns.{Reaches}
+use Rattle.core_exec.proofs.Aims.{same_job}
 use Rattle.driver_core.specs.declared.op.Op.{Op}
 use Rattle.driver_core.specs.declared.op.PollOp.TheVariants.{Pending}
 use Rattle.driver_core.specs.declared.op.Stop.{Stop}
@@ -53,11 +54,6 @@ unless_some files (Some (k, d)) h dir is = by (files k) is
         → ◌≡◌ {A = Option (ℕ × Direction)} (Some (k, d)) (Some (h, dir))
     by true is = (let f : ⊥ = cc in absurd f)
     by false is = is
-
--- A mark changes no job.
-marked_job : {J : Type 0} (b : Bool) (x : Option (Task J)) → job_in (option_map (with_mark b) x) ≡ job_in x
-marked_job b None = refl
-marked_job b (Some task) = refl
 
 -- Bits that show what a handle has and that meet no direction of a job: it is that of reads, and there is nothing to read.
 unmet_reads : (dir : Direction) (readable : Bool) (ready : ℕ) → ShowsBits readable ready → meets ready (mask_of dir) ≡ false
@@ -179,7 +175,7 @@ module _ {I B : Type 0} (files : I → ℕ → Bool) (buffer : B → Buffer) (ca
             inl (reached_marked (ready_tasks now named was) is ran.polled.items ran.stopped t reaches marked)
         by t job own false unmarked =
             inr (all_kept mid (ready_tasks now named was) (turned_kept now named old mid turned was turns names fitting waiting) t job
-            unmarked (marked_job (has_task t named || is_late now (was t)) (was t) ∙ own))
+            unmarked (same_job (has_task t named || is_late now (was t)) (was t) ∙ own))
 
     -- The same of an answer.
     pub wakes_if : {F : Type 0} (now : ℕ) (named : List ℕ) (old mid : LegacyState I B) (turned : Turned)

@@ -1,6 +1,6 @@
 -- What a poll of a job does: what it waits for is polled; its follower is told how that ended, and says what comes, which is polled so
 -- too. Cited by `OpJob` and `Follow`.
-use Rattle.std.specs.Prelude.{ℕ, ◌≡◌, ◌≤◌, ◌<◌, ◌+◌, ◌⊎◌, Bool, true, false, not, ◌==◌, List, [], ◌∷◌, length, Result, Ok, Err}
+use Rattle.std.specs.Prelude.{ℕ, ◌≡◌, ◌≢◌, ◌≤◌, ◌<◌, ◌+◌, ◌⊎◌, Bool, true, false, not, ◌==◌, List, [], ◌∷◌, length, Result, Ok, Err}
 use Rattle.rent_buf.specs.Parts.{Parts}
 use Rattle.rent_buf.specs.declared.fault.OutOfMemory.{OutOfMemory as NoMemory}
 use Rattle.ring_core.specs.Request.{named}
@@ -61,6 +61,11 @@ module _ {D B : Type 0} (submits : D → D → Request B Parts → Result Op (Su
     pub why : refused.why ≡ fault.OutOfMemory
     pub same : back ≡ request
 
+  -- Its submission was refused, and not for want of memory.
+  pub record IsRefused (old new : D) (request : Request B Parts) (refused : SubmitError B) : Type 0 where
+    pub does : submits old new request (Err refused)
+    pub why : refused.why ≢ fault.OutOfMemory
+
   -- It isn't submitted, and comes back: the user doesn't hold each handle that it names, or as many operations were submitted as may be.
   pub record IsNotHeld (old new : D) (request back : Request B Parts) : Type 0 where
     pub kept : new ≡ old
@@ -70,7 +75,7 @@ module _ {D B : Type 0} (submits : D → D → Request B Parts → Result Op (Su
   -- A request is to be submitted: it is, or comes back.
   abbrev pub SubmitsAs : D → D → Request B Parts → JobStep (State B) (OpEnd B) → Type 0
   SubmitsAs old new request (step.Done (Done done)) = Entered old new request (step.Done (Done done))
-  SubmitsAs old new request (step.Done (Refused refused)) = submits old new request (Err refused)
+  SubmitsAs old new request (step.Done (Refused refused)) = IsRefused old new request refused
   SubmitsAs old new request (step.Done (NotHeld back)) = IsNotHeld old new request back
   SubmitsAs old new request (step.Done (Withdrawn back)) = ⊥
   SubmitsAs old new request (step.Pending state) = Entered old new request (step.Pending state)
