@@ -3,6 +3,7 @@ pub mod Calls
 pub mod Connections
 pub mod Feeds
 pub mod Flows
+pub mod Keyed
 pub mod Listens
 pub mod Marks
 pub mod Moves

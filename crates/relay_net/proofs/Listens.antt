@@ -82,7 +82,7 @@ at_hand_kept view old new h world bits hand = record {
 }
 
 -- What the user holds somebody holds.
-users_known : (table : Table) (h : ℕ) → is_users table h ≡ true → is_known table h ≡ true
+pub users_known : (table : Table) (h : ℕ) → is_users table h ≡ true → is_known table h ≡ true
 users_known table h held = by-found (map.get table.holders h) refl
   where
     by-found : (found : Option Holders) → map.get table.holders h ≡ found → is_known table h ≡ true

@@ -13,7 +13,7 @@ use Rattle.ring_core.specs.declared.request.Outcome.{Outcome}
 use Rattle.ring_core.specs.declared.request.Request.{Request}
 use Rattle.ring_core.specs.Effect.{made_by}
 use Rattle.ring_core.specs.Request.{named, plain_request}
-use Rattle.driver_core.specs.Holds.{unheld_by}
+use Rattle.driver_core.specs.Holds.{unheld_by, without_ops}
 use Rattle.driver_core.specs.Op.{KeepsTokens}
 use Rattle.driver_core.specs.Ops.{Ops}
 use Rattle.driver_core.specs.Requests.{request_in as asked_in}
@@ -30,7 +30,7 @@ use Rattle.ready_driver.specs.Io.{IoView, IsLater, IsMade}
 use Rattle.ready_driver.specs.LegacyPolls.{HandsOver, outcome_for}
 use Rattle.ready_driver.specs.LegacyState.{LegacyState, ops_in}
 use Rattle.ready_driver.specs.Named.{IsCompleted}
-use Rattle.ready_driver.specs.Registry.{Handling}
+use Rattle.ready_driver.specs.Registry.{Handling, LetsGo}
 use Rattle.op_driver.specs.Legacy.{LegacyPolls}
 use Rattle.relay_net.specs.Flow.{IfAsked, IsPending, asked_at}
 use Rattle.relay_net.specs.Keeping.{KeepsOps, KeepsUsers, world_of}
@@ -78,17 +78,24 @@ module _ {I : Type 0} (view : I → IoView) (tells memory : Bool) (files : I →
     pub users : KeepsUsers old.handling.table new.handling.table
     pub world : IsTrue tells → world_of view new ≡ world_of view old
     pub asked : asked_at (ops_in new) op ≡ asked_at (ops_in old) op
+    pub holders : new.handling.table.holders ≡ old.handling.table.holders
+    pub keys : IsTrue memory → (view new.handling.io).keys ≡ (view old.handling.io).keys
+    pub made : (view new.handling.io).made ≡ (view old.handling.io).made
 
   record Unmoved (slot new : Option (Slot Buf)) (before after : I) : Type 0 where
     later : IsLater (view before) (view after)
     world : IsTrue tells → (view after).world ≡ (view before).world
     asked : plain_in new ≡ plain_in slot
+    keys : IsTrue memory → (view after).keys ≡ (view before).keys
+    made : (view after).made ≡ (view before).made
 
   unmoved_none : (slot new : Option (Slot Buf)) (before after : I) → after ≡ before → new ≡ slot → Unmoved slot new before after
   unmoved_none slot new before after object same = record {
     later = subst (λ io. IsLater (view before) (view io)) (sym object) (later_same (view before));
     world = λ t. ap (λ io. (view io).world) object;
     asked = ap plain_in same;
+    keys = λ m. ap (λ io. (view io).keys) object;
+    made = ap (λ io. (view io).made) object;
   }
 
   unmoved_pending : (b : Bool) (slot new : Option (Slot Buf)) (before after : I) (back : Op)
@@ -102,6 +109,8 @@ module _ {I : Type 0} (view : I → IoView) (tells memory : Bool) (files : I →
         world = does.world;
         asked = ap (option_map (plain_request built)) (sym (same_asked new) ∙ calls.stays)
             ∙ (ap Some does.same ∙ sym (ap (option_map (plain_request built)) (sym (same_asked slot) ∙ calls.made.asked)));
+        keys = does.keys;
+        made = does.made;
       }
 
   unmoved_starved : (b : Bool) (slot new : Option (Slot Buf)) (before after : I) (error : NoMemory × Op)
@@ -116,6 +125,8 @@ module _ {I : Type 0} (view : I → IoView) (tells memory : Bool) (files : I →
         world = does.world;
         asked = ap (option_map (plain_request built)) (sym (same_asked new) ∙ calls.stays)
             ∙ (ap Some does.same ∙ sym (ap (option_map (plain_request built)) (sym (same_asked slot) ∙ calls.made.asked)));
+        keys = does.keys;
+        made = does.made;
       }
 
   pub pending_waits : (old new : LegacyState I Buf) (op back : Op) (task : ℕ)
@@ -129,6 +140,9 @@ module _ {I : Type 0} (view : I → IoView) (tells memory : Bool) (files : I →
         users = same_users old.handling.table new.handling.table polls.ends.0.table;
         world = none.world;
         asked = none.asked;
+        holders = polls.ends.0.table;
+        keys = none.keys;
+        made = none.made;
       }
 
   pub starved_waits : (old new : LegacyState I Buf) (op : Op) (error : NoMemory × Op) (task : ℕ)
@@ -142,6 +156,9 @@ module _ {I : Type 0} (view : I → IoView) (tells memory : Bool) (files : I →
         users = same_users old.handling.table new.handling.table polls.ends.0.table;
         world = none.world;
         asked = none.asked;
+        holders = polls.ends.0.table;
+        keys = none.keys;
+        made = none.made;
       }
 
   -- The operation of a poll that returned none is pending still.
@@ -192,6 +209,8 @@ module _ {I : Type 0} (view : I → IoView) (tells memory : Bool) (files : I →
     pub outcome : done.outcome ≡ outcome_for mid.table call
     pub handed : Handling I
     pub hands : HandsOver view tells memory mid (made_by done.outcome) handed
+    pub lets : LetsGo view tells memory handed (without_ops handed.table (named done.request)) (unheld_by handed.table (named done.request))
+        new.handling
     pub left_later : IsLater (view handed.io) (view new.handling.io)
     pub left_world : IsTrue tells → (view new.handling.io).world ≡ (view handed.io).world
     pub left_users : KeepsUsers handed.table new.handling.table
@@ -225,6 +244,7 @@ module _ {I : Type 0} (view : I → IoView) (tells memory : Bool) (files : I →
         outcome = ends.outcome;
         handed = ends.handed;
         hands = ends.hands;
+        lets = ends.lets;
         left_later = ends.lets.object.later;
         left_world = ends.lets.object.world;
         left_users = lets_users view tells memory ends.handed new.handling (named done.request)

@@ -6,4 +6,5 @@ pub mod Connection
 pub mod Relay
 pub mod Opening
 pub mod Listening
+pub mod Keyed
 pub mod Relaying

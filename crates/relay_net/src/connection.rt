@@ -7,6 +7,7 @@ ghost use Rattle.ready_driver.specs.Registry.{is_users};
 ghost use Rattle.relay_net.specs.Connection.{EndsConnection, FitsConnection, FitsBack, FollowsAs, IsGoing, IsLostAs, IsOver, IsOverIf};
 ghost use Rattle.relay_net.specs.Connection.{Releases, Serves};
 ghost use Rattle.relay_net.specs.Connection.{far_of, held_back, held_forth, near_of};
+ghost use Rattle.relay_net.specs.Keyed.{KeepsKeys};
 
 use crate::flow::{Came, Flow, Reads, abandon, step};
 use crate::round::{Lost, RelayError};
@@ -64,6 +65,7 @@ fn step_forth<I: NonBlock>(driver: &mut Reads<I>, alloc: Global, conn: &mut Conn
     ensures serves { Serves I.view I.tells driver.old driver.new conn.old conn.new result }
     ensures going { IsGoing result }
     ensures given { driver.new.given ≤ driver.old.given + 1 }
+    ensures keyed { KeepsKeys I.view I.memory driver.old driver.new }
 {
     let reads = !conn.ending;
     let came = step(driver, alloc, &mut conn.forth, reads);
@@ -71,7 +73,7 @@ fn step_forth<I: NonBlock>(driver: &mut Reads<I>, alloc: Global, conn: &mut Conn
 }
 
 // A step from the far handle to the near one, where they aren't the same.
-#[tactic(auto, using(crate::proofs::Connections::users_held, crate::proofs::Connections::none_serves))]
+#[tactic(auto, using(crate::proofs::Connections::users_held, crate::proofs::Connections::none_serves, crate::proofs::Keyed::keeps_none))]
 fn step_back<I: NonBlock>(driver: &mut Reads<I>, alloc: Global, conn: &mut Connection) -> Served
     requires fits { FitsConnection (ops_in driver.old) conn.old }
     requires near { is_users driver.old.handling.table (near_of conn.old) ≡ true }
@@ -80,6 +82,7 @@ fn step_back<I: NonBlock>(driver: &mut Reads<I>, alloc: Global, conn: &mut Conne
     ensures serves { Serves I.view I.tells driver.old driver.new conn.old conn.new result }
     ensures going { IsGoing result }
     ensures given { driver.new.given ≤ driver.old.given + 1 }
+    ensures keyed { KeepsKeys I.view I.memory driver.old driver.new }
 {
     let reads = !conn.ending;
     match &mut conn.back {
@@ -104,6 +107,7 @@ pub(crate) fn serve<I: NonBlock>(
     ensures serves { Serves I.view I.tells driver.old driver.new conn.old conn.new result }
     ensures over { IsOverIf (ops_in driver.new) conn.new result }
     ensures given { driver.new.given ≤ driver.old.given + 2 }
+    ensures keyed { KeepsKeys I.view I.memory driver.old driver.new }
 {
     match step_forth(driver, alloc, conn) {
         Served::Open => {}
@@ -124,11 +128,13 @@ pub(crate) fn release<I: NonBlock>(driver: &mut Reads<I>, fd: SharedFd)
     requires held { is_users driver.old.handling.table fd ≡ true }
     ensures releases { Releases I.view I.tells driver.old fd driver.new }
     ensures given { driver.new.given ≡ driver.old.given }
+    ensures keyed { KeepsKeys I.view I.memory driver.old driver.new }
 {
     let _ = driver.release(fd);
 }
 
 // Ends the direction from the far handle to the near one, where there is one, with the far handle.
+#[tactic(auto, using(crate::proofs::Keyed::keeps_none, crate::proofs::Keyed::keeps_then))]
 fn end_back<I: NonBlock>(driver: &mut Reads<I>, near: SharedFd, far: SharedFd, back: Option<Flow>)
     requires fits { FitsBack (ops_in driver.old) near far back }
     requires held { is_users driver.old.handling.table far ≡ true }
@@ -136,6 +142,7 @@ fn end_back<I: NonBlock>(driver: &mut Reads<I>, near: SharedFd, far: SharedFd, b
     ensures near { near ≢ far → is_users driver.old.handling.table near ≡ true → is_users driver.new.handling.table near ≡ true }
     ensures same { near ≡ far → driver.new ≡ driver.old }
     ensures given { driver.new.given ≡ driver.old.given }
+    ensures keyed { KeepsKeys I.view I.memory driver.old driver.new }
 {
     match back {
         None => {}
@@ -224,6 +231,7 @@ impl Connection {
         requires far { is_users driver.old.handling.table (far_of self) ≡ true }
         ensures ends { EndsConnection I.view I.tells driver.old (near_of self) (far_of self) driver.new }
         ensures given { driver.new.given ≡ driver.old.given }
+        ensures keyed { KeepsKeys I.view I.memory driver.old driver.new }
     {
         let Connection {
             forth,

@@ -3,6 +3,7 @@ ghost use Rattle.std.specs.Prelude.{◌≡◌, true, false, IsTrue, IfOk, IfErr}
 ghost use Rattle.ready_driver.specs.LegacyState.{ops_in};
 ghost use Rattle.ready_driver.specs.Registry.{is_old, is_users};
 ghost use Rattle.relay_net.specs.Keeping.{AnyRequest, KeepsOps};
+ghost use Rattle.relay_net.specs.Keyed.{KeepsKeys};
 ghost use Rattle.relay_net.specs.Opening.{FarFails, IsFar, IsNew, Widens};
 
 use handle_core::SharedFd;
@@ -13,7 +14,8 @@ use ring_core::MOST_HANDLES;
 /// What gives an accepted connection its other end. (not in monoio)
 pub trait Far<I: Sockets>: Drop {
     /// The other end of the connection whose near handle this is, which the user holds: the near handle itself, or a new one, which the
-    /// user got. No bytes move. `Fault` comes only where the object's count of faults rose. (not in monoio)
+    /// user got. No bytes move. `Fault` comes only where the object's count of faults rose. Over a world in memory each handle that
+    /// somebody holds is registered with its own number, if it was so before. (not in monoio)
     fn far(
         &mut self,
         driver: &mut LegacyDriver<I, Buf>,
@@ -24,7 +26,8 @@ pub trait Far<I: Sockets>: Drop {
         ensures ops { KeepsOps AnyRequest (ops_in driver.old) (ops_in driver.new) }
         ensures far { IfOk result (λ far. IsFar driver.old.handling.table driver.new.handling.table near far) }
         ensures fault { IfErr result (FarFails (I.view driver.old.handling.io) (I.view driver.new.handling.io)) }
-        ensures given { driver.new.given ≡ driver.old.given };
+        ensures given { driver.new.given ≡ driver.old.given }
+        ensures keyed { KeepsKeys I.view I.memory driver.old driver.new };
 }
 
 // The number of the object's next handle can be new.
@@ -36,13 +39,14 @@ pub(crate) fn has_number<I: Sockets>(driver: &LegacyDriver<I, Buf>) -> bool
 }
 
 // A connection to a port, whose handle is new. Where the next handle's number can't be new, none is dialled.
-#[tactic(auto, using(crate::proofs::Opened::none_widens))]
+#[tactic(auto, using(crate::proofs::Opened::none_widens, crate::proofs::Keyed::keeps_none))]
 fn dial<I: Sockets>(driver: &mut LegacyDriver<I, Buf>, port: u16) -> Result<SharedFd, NonBlockError>
     ensures widens { Widens I.view I.tells driver.old driver.new }
     ensures ops { KeepsOps AnyRequest (ops_in driver.old) (ops_in driver.new) }
     ensures far { IfOk result (λ far. IsNew driver.old.handling.table driver.new.handling.table far) }
     ensures fault { IfErr result (FarFails (I.view driver.old.handling.io) (I.view driver.new.handling.io)) }
     ensures given { driver.new.given ≡ driver.old.given }
+    ensures keyed { KeepsKeys I.view I.memory driver.old driver.new }
 {
     if !has_number(driver) {
         return Err(NonBlockError::OutOfMemory);
@@ -58,7 +62,7 @@ fn dial<I: Sockets>(driver: &mut LegacyDriver<I, Buf>, port: u16) -> Result<Shar
 pub struct Mirror;
 
 impl<I: Sockets> Far<I> for Mirror {
-    #[tactic(auto, using(crate::proofs::Opened::none_widens))]
+    #[tactic(auto, using(crate::proofs::Opened::none_widens, crate::proofs::Keyed::keeps_none))]
     fn far(
         &mut self,
         driver: &mut LegacyDriver<I, Buf>,

@@ -9,6 +9,7 @@ ghost use Rattle.ready_driver.specs.LegacyState.{holds_all, ops_in};
 ghost use Rattle.ready_driver.specs.Records.{io_at};
 ghost use Rattle.relay_net.specs.Flow.{FitsFlow, FitsStage, IsPending, IsReceive, IsSend, asked_at, bytes_sent, empty_buffer, held_in};
 ghost use Rattle.relay_net.specs.Keeping.{Stays, StopsAs, StopsFor};
+ghost use Rattle.relay_net.specs.Keyed.{KeepsKeys};
 ghost use Rattle.relay_net.specs.Outcomes.{IsIdle, ReceivedAs, SentAs};
 ghost use Rattle.relay_net.specs.Steps.{Abandons, Begins, Flows};
 ghost use Rattle.driver_core.specs.Ops.{Ops};
@@ -95,6 +96,7 @@ pub(crate) fn submit<I: NonBlock>(
     ensures back { IfErr result (λ refused. refused.1 ≡ request) }
     ensures stops { IfErr result (λ refused. StopsFor (I.view driver.old.handling.io) (I.view driver.new.handling.io) refused.0) }
     ensures given { driver.new.given ≤ driver.old.given + 1 }
+    ensures keyed { KeepsKeys I.view I.memory driver.old driver.new }
 {
     let _ = driver.given();
     match driver.submit_op(request) {
@@ -183,6 +185,7 @@ fn cut(buf: Buf, count: usize) -> Buf
 }
 
 // Submits a receive.
+#[tactic(auto, using(crate::proofs::Keyed::keeps_none))]
 fn receive<I: NonBlock>(
     driver: &mut Reads<I>,
     alloc: Global,
@@ -194,6 +197,7 @@ fn receive<I: NonBlock>(
     requires counter { driver.old.given < MOST_GIVEN }
     ensures begins { Begins I.view I.tells driver.old driver.new from to [] result.0 result.1 }
     ensures given { driver.new.given ≤ driver.old.given + 1 }
+    ensures keyed { KeepsKeys I.view I.memory driver.old driver.new }
 {
     let _ = to;
     let Ok(buf) = empty(alloc, spare) else {
@@ -219,6 +223,7 @@ fn send<I: NonBlock>(
     requires counter { driver.old.given < MOST_GIVEN }
     ensures begins { Begins I.view I.tells driver.old driver.new from to (content_of buf) result.0 result.1 }
     ensures given { driver.new.given ≤ driver.old.given + 1 }
+    ensures keyed { KeepsKeys I.view I.memory driver.old driver.new }
 {
     let _ = from;
     let count = buf.bytes_init();
@@ -272,6 +277,7 @@ fn poll_receive<I: NonBlock>(
     requires pending { IsPending (ops_in driver.old) op (IsReceive from) }
     ensures flows { Flows I.view I.tells driver.old driver.new from to [] result.0 result.1 }
     ensures given { driver.new.given ≡ driver.old.given }
+    ensures keyed { KeepsKeys I.view I.memory driver.old driver.new }
 {
     let _ = to;
     match OpDriver::poll_op(driver, op, TASK) {
@@ -295,6 +301,7 @@ fn poll_send<I: NonBlock>(
     requires pending { IsPending (ops_in driver.old) op (IsSend to count) }
     ensures flows { Flows I.view I.tells driver.old driver.new from to (bytes_sent (asked_at (ops_in driver.old) op)) result.0 result.1 }
     ensures given { driver.new.given ≡ driver.old.given }
+    ensures keyed { KeepsKeys I.view I.memory driver.old driver.new }
 {
     let _ = from;
     match OpDriver::poll_op(driver, op, TASK) {
@@ -311,7 +318,7 @@ fn poll_send<I: NonBlock>(
 }
 
 // Submits what a direction wants: a receive, where it has nothing and may receive, or a send of what it holds.
-#[tactic(auto, using(crate::proofs::Flows::still_begins))]
+#[tactic(auto, using(crate::proofs::Flows::still_begins, crate::proofs::Keyed::keeps_none))]
 fn begin<I: NonBlock>(
     driver: &mut Reads<I>,
     alloc: Global,
@@ -327,6 +334,7 @@ fn begin<I: NonBlock>(
     ensures begins { Begins I.view I.tells driver.old driver.new from to (held_in (ops_in driver.old) stage) result.0 result.1 }
     ensures quiet { reads ≡ false → IsIdle stage → IsIdle result.0 }
     ensures given { driver.new.given ≤ driver.old.given + 1 }
+    ensures keyed { KeepsKeys I.view I.memory driver.old driver.new }
 {
     match stage {
         Stage::Idle(spare) => {
@@ -341,7 +349,7 @@ fn begin<I: NonBlock>(
 }
 
 // Polls what waits.
-#[tactic(auto, using(crate::proofs::Flows::still_flows))]
+#[tactic(auto, using(crate::proofs::Flows::still_flows, crate::proofs::Keyed::keeps_none))]
 fn poll<I: NonBlock>(
     driver: &mut Reads<I>,
     from: SharedFd,
@@ -352,6 +360,7 @@ fn poll<I: NonBlock>(
     ensures flows { Flows I.view I.tells driver.old driver.new from to (held_in (ops_in driver.old) stage) result.0 result.1 }
     ensures quiet { IsIdle stage → IsIdle result.0 }
     ensures given { driver.new.given ≡ driver.old.given }
+    ensures keyed { KeepsKeys I.view I.memory driver.old driver.new }
 {
     match stage {
         Stage::Receiving(op) => poll_receive(driver, op, from, to),
@@ -372,7 +381,7 @@ fn put(slot: &mut Stage, stage: Stage)
 }
 
 // A step of a direction: it submits what it wants, and polls once what waits.
-#[tactic(auto, using(crate::proofs::Flows::stopped_flows, crate::proofs::Flows::begun_flows))]
+#[tactic(auto, using(crate::proofs::Flows::stopped_flows, crate::proofs::Flows::begun_flows, crate::proofs::Keyed::keeps_then))]
 pub(crate) fn step<I: NonBlock>(
     driver: &mut Reads<I>,
     alloc: Global,
@@ -389,6 +398,7 @@ pub(crate) fn step<I: NonBlock>(
     // Where it may not receive, one that has nothing starts nothing.
     ensures quiet { reads ≡ false → IsIdle flow.old.stage → IsIdle flow.new.stage }
     ensures given { driver.new.given ≤ driver.old.given + 1 }
+    ensures keyed { KeepsKeys I.view I.memory driver.old driver.new }
 {
     let stage = mem::replace(&mut flow.stage, Stage::Idle(None));
     let (stage, stop) = begin(driver, alloc, flow.from, flow.to, stage, reads);
@@ -406,6 +416,7 @@ fn drop_receive<I: NonBlock>(driver: &mut Reads<I>, op: Op, from: SharedFd, to: 
     requires pending { IsPending (ops_in driver.old) op (IsReceive from) }
     ensures drops { Abandons I.view I.tells driver.old from to driver.new }
     ensures given { driver.new.given ≡ driver.old.given }
+    ensures keyed { KeepsKeys I.view I.memory driver.old driver.new }
 {
     let _ = (from, to);
     OpDriver::drop_op(driver, op);
@@ -416,13 +427,14 @@ fn drop_send<I: NonBlock>(driver: &mut Reads<I>, op: Op, count: usize, from: Sha
     requires pending { IsPending (ops_in driver.old) op (IsSend to count) }
     ensures drops { Abandons I.view I.tells driver.old from to driver.new }
     ensures given { driver.new.given ≡ driver.old.given }
+    ensures keyed { KeepsKeys I.view I.memory driver.old driver.new }
 {
     let _ = (count, from, to);
     OpDriver::drop_op(driver, op);
 }
 
 // Drops what waits.
-#[tactic(auto, using(crate::proofs::Outcomes::still_abandons))]
+#[tactic(auto, using(crate::proofs::Outcomes::still_abandons, crate::proofs::Keyed::keeps_none))]
 pub(crate) fn abandon<I: NonBlock>(
     driver: &mut Reads<I>,
     from: SharedFd,
@@ -432,6 +444,7 @@ pub(crate) fn abandon<I: NonBlock>(
     requires fits { FitsStage (ops_in driver.old) from to stage }
     ensures drops { Abandons I.view I.tells driver.old from to driver.new }
     ensures given { driver.new.given ≡ driver.old.given }
+    ensures keyed { KeepsKeys I.view I.memory driver.old driver.new }
 {
     match stage {
         Stage::Receiving(op) => drop_receive(driver, op, from, to),

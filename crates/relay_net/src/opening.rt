@@ -6,6 +6,7 @@ ghost use Rattle.ready_driver.specs.Registry.{is_old};
 ghost use Rattle.ready_driver.specs.LegacyState.{LegacyState, ops_in};
 ghost use Rattle.rent_buf.specs.declared.plain.Buf.{Buf};
 ghost use Rattle.relay_net.specs.Flow.{IsPending};
+ghost use Rattle.relay_net.specs.Keyed.{KeepsKeys};
 ghost use Rattle.relay_net.specs.Listening.{ArrivesUnless, IsAtHand, IsMadeUnless};
 ghost use Rattle.relay_net.specs.Opening.{AcceptedAs, AcceptedFor, ArrivesFor, FarStops, IsFirst, IsFresh, Opening, Widens};
 ghost use Rattle.relay_net.specs.Relay.{IsAccept, IsSound, StopsUnless};
@@ -68,6 +69,7 @@ fn poll_accept<I: Sockets>(driver: &mut Reads<I>, op: Op, listener: SharedFd) ->
     ensures accepted { AcceptedFor I.view driver.old driver.new listener result }
     ensures makes { IsTrue I.memory → IsAtHand I.view driver.old listener → IsMadeUnless result }
     ensures given { driver.new.given ≡ driver.old.given }
+    ensures keyed { KeepsKeys I.view I.memory driver.old driver.new }
 {
     let _ = listener;
     match OpDriver::poll_op(driver, op, TASK) {
@@ -95,6 +97,7 @@ fn hold(slot: &mut Option<Op>, op: Op)
 }
 
 // Submits an accept, where none waits.
+#[tactic(auto, using(crate::proofs::Keyed::keeps_none))]
 pub(crate) fn begin_accept<I: NonBlock>(state: &mut State<I>) -> Result<(), RelayError>
     requires sound { IsSound (ops_in state.old.driver) state.old.driver.handling.table state.old.listener state.old.accept
         state.old.open.items }
@@ -109,6 +112,7 @@ pub(crate) fn begin_accept<I: NonBlock>(state: &mut State<I>) -> Result<(), Rela
     ensures waits { OnOk result (IsSome state.new.accept) }
     ensures hand { OnOk result (IsTrue I.tells → (h : ℕ) → IsAtHand I.view state.old.driver h → IsAtHand I.view state.new.driver h) }
     ensures given { state.new.driver.given ≤ state.old.driver.given + 1 }
+    ensures keyed { KeepsKeys I.view I.memory state.old.driver state.new.driver }
 {
     if state.accept.is_some() {
         return Ok(());
@@ -123,6 +127,7 @@ pub(crate) fn begin_accept<I: NonBlock>(state: &mut State<I>) -> Result<(), Rela
 }
 
 // Polls the accept that waits, if one does. Where the next handle's number can't be new, it isn't polled.
+#[tactic(auto, using(crate::proofs::Keyed::keeps_none))]
 pub(crate) fn arrive<I: Sockets>(state: &mut State<I>) -> Arrival
     requires sound { IsSound (ops_in state.old.driver) state.old.driver.handling.table state.old.listener state.old.accept
         state.old.open.items }
@@ -137,6 +142,7 @@ pub(crate) fn arrive<I: Sockets>(state: &mut State<I>) -> Arrival
         → ArrivesUnless result }
     ensures same { (state.new.listener ≡ state.old.listener) × (state.new.open ≡ state.old.open) }
     ensures given { state.new.driver.given ≡ state.old.driver.given }
+    ensures keyed { KeepsKeys I.view I.memory state.old.driver state.new.driver }
 {
     if !has_number(&state.driver) {
         return Arrival::OutOfMemory;
@@ -185,6 +191,7 @@ pub(crate) fn open_one<I: Sockets, F: Far<I>>(
         → Opening I.view I.tells start was state.new.driver state.new.open.items }
     ensures stops { StopsUnless (I.view state.old.driver.handling.io) (I.view state.new.driver.handling.io) result }
     ensures given { state.new.driver.given ≡ state.old.driver.given }
+    ensures keyed { KeepsKeys I.view I.memory state.old.driver state.new.driver }
     ensures names { OnOk result (map near_of state.new.open.items ≡ map near_of state.old.open.items ++ near ∷ []) }
     ensures err { OnErr result (map near_of state.new.open.items ≡ map near_of state.old.open.items) }
     ensures first { OnOk result (IsFirst (ops_in state.new.driver) state.new.open.items near) }

@@ -9,6 +9,7 @@ ghost use Rattle.rent_buf.specs.declared.plain.Buf.{Buf};
 ghost use Rattle.relay_net.specs.declared.connection.Connection.{Connection as Conn};
 ghost use Rattle.relay_net.specs.Opening.{AcceptFails, IsFirst, Opening, WasOpened, Widens};
 ghost use Rattle.relay_net.specs.Flow.{IsPending};
+ghost use Rattle.relay_net.specs.Keyed.{AreRegistered, HasKeys, KeepsKeys};
 ghost use Rattle.relay_net.specs.Listening.{IsAtHand, MayListen};
 ghost use Rattle.relay_net.specs.Connection.{near_of};
 ghost use Rattle.relay_net.specs.Relay.{AreMarked, AreServed, IsAccept, IsAmong, IsSound, Serving, StopsUnless, connections_in};
@@ -119,6 +120,7 @@ fn turn<R: Wait + Clock, I: Sockets, P: Ledger, D: Ledger>(
         → IsAtHand I.view state.new.driver state.old.listener) }
     ensures same { (state.new.listener ≡ state.old.listener) × (state.new.open ≡ state.old.open) }
     ensures given { state.new.driver.given ≡ state.old.driver.given }
+    ensures keyed { KeepsKeys I.view I.memory state.old.driver state.new.driver }
 {
     match wait {
         None => {
@@ -135,6 +137,7 @@ fn turn<R: Wait + Clock, I: Sockets, P: Ledger, D: Ledger>(
 }
 
 // The accept of a round: it is submitted where none waits and there is a place, and polled once.
+#[tactic(auto, using(crate::proofs::Keyed::keeps_none))]
 fn accept<I: Sockets, F: Far<I>>(
     state: &mut State<I>,
     far: &mut F,
@@ -162,6 +165,7 @@ fn accept<I: Sockets, F: Far<I>>(
     ensures places { vec_len state.new.open ≤ limit }
     ensures more { vec_len state.new.open ≤ vec_len state.old.open + 1 }
     ensures given { state.new.driver.given ≤ state.old.driver.given + 1 }
+    ensures keyed { KeepsKeys I.view I.memory state.old.driver state.new.driver }
 {
     if state.open.len() >= limit {
         return Ok(());
@@ -219,12 +223,14 @@ fn work<I: Sockets, F: Far<I>>(
         (map near_of state.old.open.items ++ lists.new.opened.items) }
     ensures places { vec_len state.new.open ≤ limit }
     ensures given { state.new.driver.given ≤ state.old.driver.given + 129 }
+    ensures keyed { KeepsKeys I.view I.memory state.old.driver state.new.driver }
 {
     accept(state, far, limit, lists)?;
     serve_all(state, alloc, &mut lists.ended)
 }
 
 // What a round does after its turn.
+#[tactic(auto, using(crate::proofs::Keyed::keeps_none))]
 fn behind<I: Sockets, F: Far<I>>(
     state: &mut State<I>,
     far: &mut F,
@@ -263,6 +269,7 @@ fn behind<I: Sockets, F: Far<I>>(
         (map near_of state.old.open.items ++ lists.new.opened.items) }
     ensures places { vec_len state.new.open ≤ limit }
     ensures given { state.new.driver.given ≤ state.old.driver.given + 129 }
+    ensures keyed { KeepsKeys I.view I.memory state.old.driver state.new.driver }
 {
     match turned {
         Ok(()) => work(state, far, limit, alloc, lists),
@@ -369,6 +376,8 @@ impl<I: Sockets, F: Far<I>> Relay<I, F> {
         ensures accept { AcceptFails (I.view self.old.driver.handling.io) (I.view self.new.driver.handling.io) (round_of result).accept }
         ensures stops { RoundStops (I.view self.old.driver.handling.io) (I.view self.new.driver.handling.io) result }
         ensures given { self.new.driver.given ≤ self.old.driver.given + 129 }
+        ensures keyed { IsTrue I.memory → HasKeys I.view self.old.driver.handling
+            → AreRegistered I.view self.new.driver self.new.listener self.new.open_ones }
     {
         if self.lists.reserve(self.state.open.len() + 1).is_err() {
             self.able = 0;

@@ -6,6 +6,7 @@ ghost use Rattle.ready_driver.specs.Io.{IsLater};
 ghost use Rattle.ready_driver.specs.LegacyState.{LegacyState, ops_in};
 ghost use Rattle.rent_buf.specs.declared.plain.Buf.{Buf};
 ghost use Rattle.relay_net.specs.Connection.{IsOver, IsOverIf, ServedFor, near_of};
+ghost use Rattle.relay_net.specs.Keyed.{KeepsKeys};
 ghost use Rattle.relay_net.specs.Relay.{GoesOn, IsSound, Serving, StopsUnless, connections_in};
 ghost use Rattle.relay_net.specs.declared.connection.Connection.{Connection as Conn};
 ghost use Rattle.relay_net.specs.declared.round.Lost.{Lost as LostOne};
@@ -89,6 +90,7 @@ fn serve_one<I: NonBlock>(state: &mut State<I>, alloc: Global, at: usize) -> Ser
     ensures same { (state.new.listener ≡ state.old.listener) × (state.new.accept ≡ state.old.accept) }
     ensures len { vec_len state.new.open ≡ vec_len state.old.open }
     ensures given { state.new.driver.given ≤ state.old.driver.given + 2 }
+    ensures keyed { KeepsKeys I.view I.memory state.old.driver state.new.driver }
 {
     serve(&mut state.driver, alloc, &mut state.open[at])
 }
@@ -110,6 +112,7 @@ fn close_at<I: NonBlock>(state: &mut State<I>, at: usize, ended: &mut Ended)
     ensures same { (state.new.listener ≡ state.old.listener) × (state.new.accept ≡ state.old.accept) }
     ensures len { vec_len state.new.open + 1 ≡ vec_len state.old.open }
     ensures given { state.new.driver.given ≡ state.old.driver.given }
+    ensures keyed { KeepsKeys I.view I.memory state.old.driver state.new.driver }
     ensures names { IsPermutation (connections_in state.new.open.items ended.new.closed.items ended.new.failed.items)
         (connections_in state.old.open.items ended.old.closed.items ended.old.failed.items) }
     ensures closed { (vec_len ended.new.closed ≡ vec_len ended.old.closed + 1)
@@ -138,6 +141,7 @@ fn lose_at<I: NonBlock>(state: &mut State<I>, at: usize, fault: u16, ended: &mut
     ensures same { (state.new.listener ≡ state.old.listener) × (state.new.accept ≡ state.old.accept) }
     ensures len { vec_len state.new.open + 1 ≡ vec_len state.old.open }
     ensures given { state.new.driver.given ≡ state.old.driver.given }
+    ensures keyed { KeepsKeys I.view I.memory state.old.driver state.new.driver }
     ensures names { IsPermutation (connections_in state.new.open.items ended.new.closed.items ended.new.failed.items)
         (connections_in state.old.open.items ended.old.closed.items ended.old.failed.items) }
     ensures failed { (vec_len ended.new.failed ≡ vec_len ended.old.failed + 1)
@@ -177,6 +181,7 @@ fn serve_at<I: NonBlock>(
     ensures len { IfOk result (λ goes. GoesOn goes (vec_len state.old.open) (vec_len state.new.open)) }
     ensures fewer { vec_len state.new.open ≤ vec_len state.old.open }
     ensures given { state.new.driver.given ≤ state.old.driver.given + 2 }
+    ensures keyed { KeepsKeys I.view I.memory state.old.driver state.new.driver }
     ensures room { (vec_len ended.new.closed + vec_len state.new.open ≤ vec_len ended.old.closed + vec_len state.old.open)
         × (vec_capacity ended.new.closed ≡ vec_capacity ended.old.closed)
         × (vec_len ended.new.failed + vec_len state.new.open ≤ vec_len ended.old.failed + vec_len state.old.open)
@@ -197,7 +202,7 @@ fn serve_at<I: NonBlock>(
 }
 
 // A round of each connection, the lowest near handle first.
-#[tactic(auto, using(crate::proofs::Relays::stops_later))]
+#[tactic(auto, using(crate::proofs::Relays::stops_later, crate::proofs::Keyed::keeps_none))]
 pub(crate) fn serve_all<I: NonBlock>(
     state: &mut State<I>,
     alloc: Global,
@@ -220,6 +225,7 @@ pub(crate) fn serve_all<I: NonBlock>(
     ensures later { IsLater (I.view state.old.driver.handling.io) (I.view state.new.driver.handling.io) }
     ensures fewer { vec_len state.new.open ≤ vec_len state.old.open }
     ensures given { state.new.driver.given ≤ state.old.driver.given + 2 * vec_len state.old.open }
+    ensures keyed { KeepsKeys I.view I.memory state.old.driver state.new.driver }
 {
     let mut at = 0;
     while at < state.open.len() {

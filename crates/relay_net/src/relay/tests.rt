@@ -92,7 +92,7 @@ const ROWS: [Row; 12] = [
 ];
 
 impl Far<MemIo> for End {
-    #[tactic(auto, using(crate::proofs::Opened::none_widens))]
+    #[tactic(auto, using(crate::proofs::Opened::none_widens, crate::proofs::Keyed::keeps_none))]
     fn far(
         &mut self,
         driver: &mut LegacyDriver<MemIo, Buf>,

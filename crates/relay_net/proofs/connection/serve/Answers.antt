@@ -2,6 +2,7 @@ use Rattle.std.proofs.Common.{arith}
 use Rattle.ready_driver.specs.LegacyState.{ops_in}
 use Rattle.relay_net.specs.declared.connection.Served.TheVariants.{Open}
 use Rattle.relay_net.proofs.Connections.{going_over, serves_closed, serves_then}
+use Rattle.relay_net.proofs.Keyed.{keeps_then}
 use Rattle.relay_net.proofs.connection.serve.Goals as goal
 
 pub returns-in_default : goal.returns-in_default
@@ -11,6 +12,7 @@ returns-in_default g c =
       serves = c.step_forth.ensures.serves;
       over = going_over (ops_in c.step_forth.new.driver) c.step_forth.new.conn c.step_forth.result c.step_forth.ensures.going;
       given = omega (arith, given);
+      keyed = c.step_forth.ensures.keyed;
     }
 
 pub returns-in_default-step_back : goal.returns-in_default-step_back
@@ -23,6 +25,7 @@ returns-in_default-step_back g c =
           c.step_back.new.conn c.step_back.result c.in-Open.ensures.serves c.step_back.ensures.serves;
       over = going_over (ops_in c.step_back.new.driver) c.step_back.new.conn c.step_back.result c.step_back.ensures.going;
       given = omega (arith, first, second);
+      keyed = keeps_then _ _ _ _ _ c.step_forth.ensures.keyed c.step_back.ensures.keyed;
     }
 
 pub returns-then-is_over-clause-serves : goal.returns-then-is_over-clause-serves
@@ -37,3 +40,11 @@ returns-clause-serves g c =
     serves_then g.I.NonBlock.view g.I.NonBlock.tells c.args.driver.now c.step_forth.new.driver c.step_back.new.driver c.args.conn.now
     c.step_forth.new.conn
     c.step_back.new.conn Open c.in-Open.ensures.serves c.in-Open-step_back.ensures.serves
+
+pub returns-then-is_over-clause-keyed : goal.returns-then-is_over-clause-keyed
+returns-then-is_over-clause-keyed g c =
+    keeps_then _ _ _ _ _ c.step_forth.ensures.keyed c.step_back.ensures.keyed
+
+pub returns-clause-keyed : goal.returns-clause-keyed
+returns-clause-keyed g c =
+    keeps_then _ _ _ _ _ c.step_forth.ensures.keyed c.step_back.ensures.keyed

@@ -1,6 +1,7 @@
 use Rattle.std.proofs.Common.{ap}
 use Rattle.std.specs.FinMap as map
 use Rattle.relay_net.proofs.Opened.{opened_widens, unopened_widens}
+use Rattle.relay_net.proofs.Keyed.{opened_keys, unopened_keys}
 use Rattle.relay_net.proofs.far.dial.Goals as goal
 
 pub returns-in-Ok-clause-widens : goal.returns-in-Ok-clause-widens
@@ -23,3 +24,12 @@ pub returns-in-Err-clause-widens : goal.returns-in-Err-clause-widens
 returns-in-Err-clause-widens g c =
     unopened_widens g.I.NonBlock.view g.I.NonBlock.tells g.I.NonBlock.memory c.args.driver.now c.dial.new.self c.in-Err.why
     c.in-Err.ensures.opens c.dial.ensures.rest
+
+pub returns-in-Ok-clause-keyed : goal.returns-in-Ok-clause-keyed
+returns-in-Ok-clause-keyed g c =
+    opened_keys g.I.NonBlock.view g.I.NonBlock.tells g.I.NonBlock.memory c.args.driver.now c.dial.new.self c.in-Ok.fd c.in-Ok.ensures.opens
+
+pub returns-in-Err-clause-keyed : goal.returns-in-Err-clause-keyed
+returns-in-Err-clause-keyed g c =
+    unopened_keys g.I.NonBlock.view g.I.NonBlock.tells g.I.NonBlock.memory c.args.driver.now c.dial.new.self c.in-Err.why
+    c.in-Err.ensures.opens

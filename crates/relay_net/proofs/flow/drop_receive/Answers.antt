@@ -1,9 +1,15 @@
 use Rattle.relay_net.specs.Flow.{IsReceive}
 use Rattle.relay_net.proofs.Flows.{receive_apart}
 use Rattle.relay_net.proofs.Outcomes.{dropped_abandons}
+use Rattle.relay_net.proofs.Keyed.{dropped_keys}
 use Rattle.relay_net.proofs.flow.drop_receive.Goals as goal
 
 pub returns-clause-drops : goal.returns-clause-drops
 returns-clause-drops g c =
     dropped_abandons g.I.NonBlock.view g.I.NonBlock.tells g.I.NonBlock.memory c.args.driver.now c.drop_op.new.self c.args.op c.args.from
     c.args.to (IsReceive c.args.from) c.drop_op.ensures.drops c.requires.pending (receive_apart c.args.from c.args.to)
+
+pub returns-clause-keyed : goal.returns-clause-keyed
+returns-clause-keyed g c =
+    dropped_keys g.I.NonBlock.view g.I.NonBlock.tells g.I.NonBlock.memory c.args.driver.now c.drop_op.new.self c.args.op
+    c.drop_op.ensures.drops

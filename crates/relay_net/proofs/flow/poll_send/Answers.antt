@@ -2,6 +2,7 @@ use Rattle.std.proofs.Common.{Ok, subst}
 use Rattle.rent_buf.specs.Buf.{built}
 use Rattle.op_driver.specs.Legacy.{LegacyPolls}
 use Rattle.relay_net.proofs.Outcomes.{send_ended, send_stops, send_waits}
+use Rattle.relay_net.proofs.Keyed.{pending_keys, sent_keys, starved_keys}
 use Rattle.relay_net.proofs.flow.poll_send.Goals as goal
 
 pub returns-in-Ok-Pending-clause-flows : goal.returns-in-Ok-Pending-clause-flows
@@ -25,3 +26,20 @@ returns-in-Err-clause-flows g c =
     c.args.driver.now c.poll_op.new.self c.args.op c.in-Err.op c.in-Err.field-0-0 0 c.args.from c.args.to c.args.count
     c.in-Err.ensures.polls
     c.in-Err.ensures.tokens c.requires.pending
+
+pub returns-in-Ok-Pending-clause-keyed : goal.returns-in-Ok-Pending-clause-keyed
+returns-in-Ok-Pending-clause-keyed g c =
+    pending_keys g.I.NonBlock.view g.I.NonBlock.tells g.I.NonBlock.memory g.I.NonBlock.files g.I.Calls.called g.met.I.NonBlock.calls
+    c.args.driver.now c.poll_op.new.self c.args.op c.in-Ok-Pending.op c.in-Ok-Pending.field-0 0 c.in-Ok-Pending.field-0-is
+    c.in-Ok-Pending.ensures.polls
+
+pub returns-in-Ok-Ready-clause-keyed : goal.returns-in-Ok-Ready-clause-keyed
+returns-in-Ok-Ready-clause-keyed g c =
+    sent_keys g.I.NonBlock.view g.I.NonBlock.tells g.I.NonBlock.memory g.I.NonBlock.files g.I.Calls.called g.met.I.NonBlock.calls
+    c.args.driver.now c.poll_op.new.self c.args.op c.in-Ok-Ready.field-0 c.in-Ok-Ready.done 0 c.args.to c.args.count
+    c.in-Ok-Ready.field-0-is c.in-Ok-Ready.ensures.polls c.requires.pending
+
+pub returns-in-Err-clause-keyed : goal.returns-in-Err-clause-keyed
+returns-in-Err-clause-keyed g c =
+    starved_keys g.I.NonBlock.view g.I.NonBlock.tells g.I.NonBlock.memory g.I.NonBlock.files g.I.Calls.called g.met.I.NonBlock.calls
+    c.args.driver.now c.poll_op.new.self c.args.op _ 0 c.in-Err.ensures.polls

@@ -3,6 +3,7 @@ use Rattle.rent_buf.specs.Buf.{built}
 use Rattle.ring_core.specs.Request.{plain_request}
 use Rattle.relay_net.proofs.Calls.{submitted_pends, submitted_stays}
 use Rattle.relay_net.proofs.Listens.{submitted_bits}
+use Rattle.relay_net.proofs.Keyed.{refused_keys, submitted_keys}
 use Rattle.relay_net.proofs.flow.submit.Goals as goal
 
 pub returns-in-Ok-clause-stays : goal.returns-in-Ok-clause-stays
@@ -21,3 +22,13 @@ pub returns-in-Ok-clause-bits : goal.returns-in-Ok-clause-bits
 returns-in-Ok-clause-bits g c = λ h.
     submitted_bits g.I.NonBlock.view g.I.NonBlock.tells g.I.NonBlock.memory c.args.driver.now c.submit_op.new.self c.args.request c.in-Ok.op
     c.in-Ok.ensures.submits h
+
+pub returns-in-Ok-clause-keyed : goal.returns-in-Ok-clause-keyed
+returns-in-Ok-clause-keyed g c =
+    submitted_keys g.I.NonBlock.view g.I.NonBlock.tells g.I.NonBlock.memory c.args.driver.now c.submit_op.new.self c.args.request c.in-Ok.op
+    c.in-Ok.ensures.submits c.requires.held
+
+pub returns-in-Err-clause-keyed : goal.returns-in-Err-clause-keyed
+returns-in-Err-clause-keyed g c =
+    refused_keys g.I.NonBlock.view g.I.NonBlock.tells g.I.NonBlock.memory c.args.driver.now c.submit_op.new.self c.args.request _
+    c.in-Err.ensures.submits

@@ -8,6 +8,7 @@ use Rattle.relay_net.specs.Relay.{IsSound}
 use Rattle.relay_net.proofs.Opens.{fresh_kept, opening_pushed, opening_widens}
 use Rattle.relay_net.proofs.Opened.{kept_sound, opened_sound, released_opening, released_sound}
 use Rattle.relay_net.proofs.Numbers.{numbers_opened}
+use Rattle.relay_net.proofs.Keyed.{keeps_then}
 use Rattle.relay_net.proofs.opening.open_one.Goals as goal
 
 pub returns-then-is_err-clause-sound : goal.returns-then-is_err-clause-sound
@@ -96,3 +97,7 @@ returns-in-Ok-clause-first g c = record {
   forth = (c.new.ensures.none (ops_in c.far.new.driver)).0;
   back = (c.new.ensures.none (ops_in c.far.new.driver)).1;
 }
+
+pub returns-in-Err-clause-keyed : goal.returns-in-Err-clause-keyed
+returns-in-Err-clause-keyed g c =
+    keeps_then _ _ _ _ _ c.far.ensures.keyed c.release-in-Err.ensures.keyed

@@ -1,5 +1,6 @@
 use Rattle.relay_net.proofs.Opened.{accept_ends, accept_fails, accept_starves, accept_waits, accepted_for}
 use Rattle.relay_net.proofs.Listens.{accept_goes, accept_makes}
+use Rattle.relay_net.proofs.Keyed.{accepted_keys, pending_keys, starved_keys}
 use Rattle.relay_net.proofs.opening.poll_accept.Goals as goal
 
 pub returns-in-Ok-Pending-clause-widens : goal.returns-in-Ok-Pending-clause-widens
@@ -54,3 +55,20 @@ returns-in-Ok-Ready-clause-makes g c = λ memory hand.
     g.met.I.Sockets.numbered c.args.driver.now c.poll_op.new.self c.args.op c.in-Ok-Ready.field-0 c.in-Ok-Ready.done 0 c.args.listener
     c.accepted_of.result c.in-Ok-Ready.field-0-is c.in-Ok-Ready.ensures.polls c.requires.pending c.requires.number c.accepted_of.ensures
     memory hand
+
+pub returns-in-Ok-Pending-clause-keyed : goal.returns-in-Ok-Pending-clause-keyed
+returns-in-Ok-Pending-clause-keyed g c =
+    pending_keys g.I.NonBlock.view g.I.NonBlock.tells g.I.NonBlock.memory g.I.NonBlock.files g.I.Calls.called g.met.I.NonBlock.calls
+    c.args.driver.now c.poll_op.new.self c.args.op c.in-Ok-Pending.op c.in-Ok-Pending.field-0 0 c.in-Ok-Pending.field-0-is
+    c.in-Ok-Pending.ensures.polls
+
+pub returns-in-Ok-Ready-clause-keyed : goal.returns-in-Ok-Ready-clause-keyed
+returns-in-Ok-Ready-clause-keyed g c =
+    accepted_keys g.I.NonBlock.view g.I.NonBlock.tells g.I.NonBlock.memory g.I.NonBlock.files g.I.Calls.called g.met.I.NonBlock.calls
+    g.met.I.Sockets.numbered c.args.driver.now c.poll_op.new.self c.args.op c.in-Ok-Ready.field-0 c.in-Ok-Ready.done 0 c.args.listener
+    c.in-Ok-Ready.field-0-is c.in-Ok-Ready.ensures.polls c.requires.pending
+
+pub returns-in-Err-clause-keyed : goal.returns-in-Err-clause-keyed
+returns-in-Err-clause-keyed g c =
+    starved_keys g.I.NonBlock.view g.I.NonBlock.tells g.I.NonBlock.memory g.I.NonBlock.files g.I.Calls.called g.met.I.NonBlock.calls
+    c.args.driver.now c.poll_op.new.self c.args.op _ 0 c.in-Err.ensures.polls

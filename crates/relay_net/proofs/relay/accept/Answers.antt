@@ -1,6 +1,7 @@
 use Rattle.std.proofs.Common.{arith, rules}
 use Rattle.relay_net.proofs.Opens.{opening_starts}
 use Rattle.relay_net.proofs.Relays.{stops_later}
+use Rattle.relay_net.proofs.Keyed.{keeps_then}
 use Rattle.relay_net.proofs.relay.accept.Goals as goal
 
 pub returns-in_err-begin_accept-clause-opening : goal.returns-in_err-begin_accept-clause-opening
@@ -40,3 +41,23 @@ returns-in-Failed-clause-fails g c =
     (opening_starts g.I.NonBlock.view g.I.NonBlock.tells c.args.state.now.driver c.args.state.now.open.items)).later.fails in
     let rose = c.in-Failed.ensures.arrives in
     omega (arith, first, rose)
+
+pub returns-in-Nothing-clause-keyed : goal.returns-in-Nothing-clause-keyed
+returns-in-Nothing-clause-keyed g c =
+    keeps_then _ _ _ _ _ c.begin_accept.ensures.keyed c.arrive.ensures.keyed
+
+pub returns-in-OutOfMemory-clause-keyed : goal.returns-in-OutOfMemory-clause-keyed
+returns-in-OutOfMemory-clause-keyed g c =
+    keeps_then _ _ _ _ _ c.begin_accept.ensures.keyed c.arrive.ensures.keyed
+
+pub returns-in-Failed-clause-keyed : goal.returns-in-Failed-clause-keyed
+returns-in-Failed-clause-keyed g c =
+    keeps_then _ _ _ _ _ c.begin_accept.ensures.keyed c.arrive.ensures.keyed
+
+pub returns-in_err-open_one-in-Made-clause-keyed : goal.returns-in_err-open_one-in-Made-clause-keyed
+returns-in_err-open_one-in-Made-clause-keyed g c =
+    keeps_then _ _ _ _ _ c.begin_accept.ensures.keyed (keeps_then _ _ _ _ _ c.arrive.ensures.keyed c.open_one.ensures.keyed)
+
+pub returns-in_ok-open_one-in-Made-clause-keyed : goal.returns-in_ok-open_one-in-Made-clause-keyed
+returns-in_ok-open_one-in-Made-clause-keyed g c =
+    keeps_then _ _ _ _ _ c.begin_accept.ensures.keyed (keeps_then _ _ _ _ _ c.arrive.ensures.keyed c.open_one.ensures.keyed)

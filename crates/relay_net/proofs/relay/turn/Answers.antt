@@ -1,5 +1,6 @@
 use Rattle.relay_net.proofs.Opens.{opening_starts, opening_widens, turned_widens}
 use Rattle.relay_net.proofs.Listens.{turned_at_hand, turned_ok}
+use Rattle.relay_net.proofs.Keyed.{turned_keys}
 use Rattle.relay_net.proofs.relay.turn.Goals as goal
 
 pub returns-in-Some-clause-opening : goal.returns-in-Some-clause-opening
@@ -31,3 +32,13 @@ returns-in-Some-clause-hand g c =
     c.park_timeout-parked.new.self c.park_timeout-parked.result.turned c.park_timeout-parked.ensures.turns).users
     c.args.state.now.listener c.requires.sound.listens)
     may)
+
+pub returns-in-None-clause-keyed : goal.returns-in-None-clause-keyed
+returns-in-None-clause-keyed g c =
+    turned_keys g.I.NonBlock.view g.I.NonBlock.tells g.I.NonBlock.memory g.I.NonBlock.reporting c.args.state.now.driver
+    c.submit-turned.new.self c.submit-turned.result c.submit-turned.ensures.turns
+
+pub returns-in-Some-clause-keyed : goal.returns-in-Some-clause-keyed
+returns-in-Some-clause-keyed g c =
+    turned_keys g.I.NonBlock.view g.I.NonBlock.tells g.I.NonBlock.memory g.I.NonBlock.reporting c.args.state.now.driver
+    c.park_timeout-parked.new.self c.park_timeout-parked.result.turned c.park_timeout-parked.ensures.turns

@@ -5,6 +5,7 @@ use Rattle.relay_net.proofs.Opens.{opening_serving, opening_starts}
 use Rattle.relay_net.proofs.Opened.{accept_within, opened_becomes}
 use Rattle.relay_net.proofs.Relays.{stops_later}
 use Rattle.relay_net.proofs.Listens.{on_ok}
+use Rattle.relay_net.proofs.Keyed.{keeps_then}
 use Rattle.relay_net.proofs.relay.work.Goals as goal
 
 pub returns-in_err-accept-clause-serving : goal.returns-in_err-accept-clause-serving
@@ -74,3 +75,7 @@ returns-clause-opens g c = λ start was opening n among.
 
 pub returns-clause-accepts : goal.returns-clause-accepts
 returns-clause-accepts g c = on_ok c.serve_all.result _ c.in_ok-accept.ensures.accepts
+
+pub returns-clause-keyed : goal.returns-clause-keyed
+returns-clause-keyed g c =
+    keeps_then _ _ _ _ _ c.accept.ensures.keyed c.serve_all.ensures.keyed

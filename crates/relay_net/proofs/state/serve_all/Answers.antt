@@ -3,6 +3,7 @@ use Rattle.std.specs.Vec.{vec_len}
 use Rattle.std.proofs.lemmas.List.Sorted.{IsPermutation-trans}
 use Rattle.relay_net.specs.Relay.{GoesOn}
 use Rattle.relay_net.proofs.Calls.{later_then}
+use Rattle.relay_net.proofs.Keyed.{keeps_then}
 use Rattle.relay_net.proofs.state.serve_all.Goals as goal
 
 pub returns-in_err-serve_at-clause-serving : goal.returns-in_err-serve_at-clause-serving
@@ -43,6 +44,7 @@ loop-at-preserved-then-branch g c =
       given = omega (arith, test, size, given, more, goes);
       closed = omega (arith, closed, room_closed, cap_closed, goes);
       failed = omega (arith, failed, room_failed, cap_failed, goes);
+      keyed = keeps_then _ _ _ _ _ before.keyed now.keyed;
     }
 
 pub loop-at-preserved : goal.loop-at-preserved
@@ -76,4 +78,9 @@ loop-at-preserved g c =
       given = omega (arith, test, size, given, more, goes);
       closed = omega (arith, closed, room_closed, cap_closed, goes);
       failed = omega (arith, failed, room_failed, cap_failed, goes);
+      keyed = keeps_then _ _ _ _ _ before.keyed now.keyed;
     }
+
+pub returns-in_err-serve_at-clause-keyed : goal.returns-in_err-serve_at-clause-keyed
+returns-in_err-serve_at-clause-keyed g c =
+    keeps_then _ _ _ _ _ c.loop-at.invariant.keyed c.serve_at.ensures.keyed

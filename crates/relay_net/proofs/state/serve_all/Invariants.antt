@@ -4,6 +4,7 @@ use Rattle.rent_buf.specs.declared.plain.Buf.{Buf}
 use Rattle.ready_driver.specs.Io.{IsLater}
 use Rattle.ready_driver.specs.LegacyState.{LegacyState, ops_in}
 use Rattle.std.specs.Prelude.{IsPermutation}
+use Rattle.relay_net.specs.Keyed.{KeepsKeys}
 use Rattle.relay_net.specs.Relay.{IsSound, Serving, connections_in}
 use Rattle.relay_net.specs.declared.connection.Connection.{Connection}
 use Rattle.relay_net.proofs.state.serve_all.Given as goal
@@ -26,6 +27,7 @@ invariant-loop-at g l = record {
   given : l.state.driver.given + 2 * vec_len l.state.open ≤ (l.initial.state.driver.given + 2 * vec_len l.initial.state.open) + 2 * l.at;
   closed : vec_len l.ended.closed + vec_len l.state.open ≤ vec_capacity l.ended.closed + l.at;
   failed : vec_len l.ended.failed + vec_len l.state.open ≤ vec_capacity l.ended.failed + l.at;
+  keyed : KeepsKeys g.I.NonBlock.view g.I.NonBlock.memory l.initial.state.driver l.state.driver;
 }
 
 -- Each turn serves one or ends one.

@@ -1,6 +1,7 @@
 use Rattle.std.proofs.Common.{arith}
 use Rattle.std.proofs.lemmas.List.Sorted.{IsPermutation-trans}
 use Rattle.relay_net.proofs.Numbers.{numbers_kept}
+use Rattle.relay_net.proofs.Keyed.{keeps_then}
 use Rattle.relay_net.proofs.state.serve_at.Goals as goal
 
 pub returns-in-Open-clause-serving : goal.returns-in-Open-clause-serving
@@ -44,3 +45,11 @@ returns-in-Failed-clause-names g c =
     IsPermutation-trans _ _ _ c.lose_at.ensures.names
     (numbers_kept c.args.state.now.open.items c.serve_one.new.state.open.items c.args.ended.now.closed.items
     c.args.ended.now.failed.items c.in-Failed.ensures.names)
+
+pub returns-in-Closed-clause-keyed : goal.returns-in-Closed-clause-keyed
+returns-in-Closed-clause-keyed g c =
+    keeps_then _ _ _ _ _ c.in-Closed.ensures.keyed c.close_at.ensures.keyed
+
+pub returns-in-Failed-clause-keyed : goal.returns-in-Failed-clause-keyed
+returns-in-Failed-clause-keyed g c =
+    keeps_then _ _ _ _ _ c.in-Failed.ensures.keyed c.lose_at.ensures.keyed

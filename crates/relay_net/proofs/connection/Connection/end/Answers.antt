@@ -1,5 +1,6 @@
 use Rattle.relay_net.specs.Connection.{far_of, near_of}
 use Rattle.relay_net.proofs.Connections.{abandons_ends, ends_then, releases_near}
+use Rattle.relay_net.proofs.Keyed.{keeps_then}
 use Rattle.relay_net.proofs.connection.Connection.end.Goals as goal
 
 pub returns-clause-ends : goal.returns-clause-ends
@@ -11,3 +12,7 @@ returns-clause-ends g c =
     (ends_then g.I.NonBlock.view g.I.NonBlock.tells c.abandon.new.driver c.end_back.new.driver c.release.new.driver near far
     c.end_back.ensures.ends
     (releases_near g.I.NonBlock.view g.I.NonBlock.tells c.end_back.new.driver c.release.new.driver near far c.release.ensures.releases))
+
+pub returns-clause-keyed : goal.returns-clause-keyed
+returns-clause-keyed g c =
+    keeps_then _ _ _ _ _ c.abandon.ensures.keyed (keeps_then _ _ _ _ _ c.end_back.ensures.keyed c.release.ensures.keyed)

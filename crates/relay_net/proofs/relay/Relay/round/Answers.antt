@@ -7,6 +7,8 @@ use Rattle.relay_net.specs.Opening.{AcceptFails, WasOpened}
 use Rattle.std.specs.Vec.{vec_len}
 use Rattle.relay_net.specs.Listening.{IsAtHand, MayListen}
 use Rattle.relay_net.proofs.Listens.{map_ok, ok_through}
+use Rattle.relay_net.specs.Keyed.{HasKeys}
+use Rattle.relay_net.proofs.Keyed.{sound_registered}
 use Rattle.relay_net.proofs.relay.Relay.round.Goals as goal
 
 pub returns-clause-serving : goal.returns-clause-serving
@@ -120,3 +122,17 @@ returns-clause-accepts g c =
     (map_ok c.turn-remote.result.1 _ _ (λ hands.
     subst (IsAtHand g.I.NonBlock.view c.turn-remote.new.state.driver) (sym c.turn-remote.ensures.same.0) (hands memory here))
     c.turn-remote.ensures.hand) places (sym opened ∙ none)) c.behind-worked.ensures.accepts)
+
+pub returns-then-is_err-clause-keyed : goal.returns-then-is_err-clause-keyed
+returns-then-is_err-clause-keyed g c = λ memory has.
+    let driver : c.args.self.now.driver ≡ c.self.inside.state.driver = search rules in
+    sound_registered g.I.NonBlock.view c.self.inside.state.driver c.self.inside.state.listener c.self.inside.state.accept
+    c.self.inside.state.open.items c.self.invariant.0 (subst (λ d. HasKeys g.I.NonBlock.view d.handling) driver has)
+
+pub returns-clause-keyed : goal.returns-clause-keyed
+returns-clause-keyed g c = λ memory has.
+    let driver : c.args.self.now.driver ≡ c.self.inside.state.driver = search rules in
+    sound_registered g.I.NonBlock.view c.behind-worked.new.state.driver c.behind-worked.new.state.listener
+    c.behind-worked.new.state.accept c.behind-worked.new.state.open.items c.behind-worked.ensures.sound
+    (c.behind-worked.ensures.keyed.keys memory
+    (c.turn-remote.ensures.keyed.keys memory (subst (λ d. HasKeys g.I.NonBlock.view d.handling) driver has)))
