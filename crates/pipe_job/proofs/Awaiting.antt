@@ -1,8 +1,7 @@
 -- A job that is pending is listed, for its pipe.
-use Rattle.std.proofs.Common.{ℕ, ◌≡◌, ◌∙◌, ◌⊎◌, inl, inr, ap, sym, refl, subst, Bool, true, false, true≢false, Option, Some, None, Ok}
+use Rattle.std.proofs.Common.{ℕ, ◌≡◌, ◌∙◌, ◌⊎◌, inl, inr, ap, sym, refl, subst, Bool, true, false, true≢false, Option, Some, None, Ok, List}
 use Rattle.std.specs.Prelude.{if◌then◌else◌, is_some, IsTrue}
 use Rattle.std.specs.FinMap as map
-use Rattle.rent_buf.specs.Counts.{Rose}
 use Rattle.rent_buf.specs.Parts.{Parts}
 use Rattle.rent_buf.specs.Rent.{Rented, buffer_of_rent}
 use Rattle.op_slots.specs.declared.lifecycle.Lifecycle.{Lifecycle}
@@ -10,7 +9,9 @@ use Rattle.op_slots.specs.declared.lifecycle.Lifecycle.TheVariants.{Submitted, W
 use Rattle.ring_core.specs.declared.request.Outcome.{Outcome}
 use Rattle.ring_core.specs.declared.request.Request.{Request}
 use Rattle.ring_core.specs.declared.request.Request.TheVariants as request
-use Rattle.ring_core.specs.Request.{plain_request}
+use Rattle.ring_core.specs.Attempt.{attempt, is_file_at}
+use Rattle.ring_core.specs.Request.{call_of, plain_request}
+use Rattle.ring_core.specs.declared.world.HandleState.{HandleState}
 use Rattle.driver_core.specs.declared.op.Op.{Op}
 use Rattle.driver_core.specs.declared.op.PollOp.TheVariants as polled
 use Rattle.driver_core.specs.declared.operations.calls.CallAnswer.TheVariants.{WouldBlock}
@@ -28,33 +29,19 @@ use Rattle.ready_driver.specs.LegacyState.{LegacyState, ops_in}
 use Rattle.ready_driver.specs.Named.{IsCompleted, PollsSlotFor}
 use Rattle.ready_driver.specs.Records.{Kept, record_at}
 use Rattle.ready_driver.specs.Registry.{AreRecorded, is_known}
-use Rattle.pipe_job.specs.Awaits.{IsListed}
-use Rattle.pipe_job.specs.Causes.{BlocksFile}
-use Rattle.pipe_job.specs.Course.{MovesOn}
-use Rattle.pipe_job.specs.Waits.{MovesIf}
+use Rattle.pipe_job.specs.Awaits.{IsListed, IsUnreported}
+use Rattle.pipe_job.specs.Course.{Coursed, IsNext}
+use Rattle.pipe_job.specs.Waits.{NextIf}
 use Rattle.pipe_job.proofs.Calls.{Lawful}
+use Rattle.pipe_job.proofs.Moving.{file_receives, file_sends, next_is}
 
--- A request that moves bytes of a pipe waits for a direction of it.
-moves_awaits : (pipe : ℕ) (asked : Request Rented Parts) → MovesOn pipe (plain_request buffer_of_rent asked)
-    → (dir : Direction) × (awaits asked ≡ Some (pipe, dir))
-moves_awaits pipe (request.Recv fd buf) moves = (Read, ap (λ h. Some (h, Read)) moves)
-moves_awaits pipe (request.Send fd buf) moves = (Write, ap (λ h. Some (h, Write)) moves)
-moves_awaits pipe (request.ReadVec fd parts) moves = absurd moves
-moves_awaits pipe (request.WriteVec fd parts) moves = absurd moves
-moves_awaits pipe (request.RecvMsg fd buf) moves = absurd moves
-moves_awaits pipe (request.SendMsg fd addr buf) moves = absurd moves
-moves_awaits pipe (request.Read fd pos buf) moves = absurd moves
-moves_awaits pipe (request.Write fd pos buf) moves = absurd moves
-moves_awaits pipe (request.SpliceTo fd to len) moves = absurd moves
-moves_awaits pipe (request.SpliceFrom from fd len) moves = absurd moves
-moves_awaits pipe (request.Accept fd) moves = absurd moves
-moves_awaits pipe (request.Open path flags mode) moves = absurd moves
-moves_awaits pipe (request.Connect fd addr) moves = absurd moves
-moves_awaits pipe (request.Fsync fd data_only) moves = absurd moves
-moves_awaits pipe (request.PollAdd fd read) moves = absurd moves
-moves_awaits pipe (request.MkDir path mode) moves = absurd moves
-moves_awaits pipe (request.Rename from to) moves = absurd moves
-moves_awaits pipe (request.Unlink path remove_dir) moves = absurd moves
+-- A job's next request waits for a direction of its pipe.
+moves_awaits : (course : Coursed) (asked : Request Rented Parts) → IsNext course (plain_request buffer_of_rent asked)
+    → (dir : Direction) × (awaits asked ≡ Some (course.pipe, dir))
+moves_awaits course asked next = elim (next_is course asked next) [
+  | inl receive ↦ (Read, ap awaits receive.1)
+  | inr send ↦ (Write, ap awaits send.1)
+]
 
 -- What a request waits for is that of the plain one.
 awaits_plain : (asked : Request Rented Parts) → awaits (plain_request buffer_of_rent asked) ≡ awaits asked
@@ -79,7 +66,7 @@ awaits_plain (request.Rename from to) = refl
 awaits_plain (request.Unlink path remove_dir) = refl
 
 -- What the operation of a slot in flight waits for is what its request does.
-flying_awaits : (slot : Option (Slot Rented)) (asked : Request Rented Parts) → request_in slot ≡ Some asked → flies_in slot ≡ true
+pub flying_awaits : (slot : Option (Slot Rented)) (asked : Request Rented Parts) → request_in slot ≡ Some asked → flies_in slot ≡ true
     → slot_awaits slot ≡ awaits asked
 flying_awaits None asked is flies = absurd cc
 flying_awaits (Some slot) asked is flies =
@@ -104,23 +91,34 @@ flies_still slot (Some one) now is flies completed = by one.life refl
 
 module _ {I : Type 0} (files : I → ℕ → Bool) (view : I → IoView) (tells memory : Bool) (called : Called I)
     (law : Lawful view tells memory called) where
+  -- A call on a file of a world in memory doesn't block.
+  file_made : IsTrue memory → (course : Coursed) (request : Request Rented Parts) (world : List HandleState)
+      → IsNext course (plain_request buffer_of_rent request) → is_file_at world course.pipe ≡ true
+      → attempt world (call_of (plain_request buffer_of_rent request)) ≡ None → ⊥
+  file_made told course request world next one none = elim (next_is course request next) [
+    | inl receive ↦ file_receives world course.pipe receive.0 one
+        (subst (λ r. attempt world (call_of (plain_request buffer_of_rent r)) ≡ None) receive.1 none)
+    | inr send ↦ file_sends world course.pipe send.0 one
+        (subst (λ r. attempt world (call_of (plain_request buffer_of_rent r)) ≡ None) send.1 none)
+  ]
+
   -- What a pending poll of an operation leaves, by whether its handle is a file: its call would have blocked; or it is listed.
   abbrev Behind : Bool → ℕ → ℕ → ℕ → Direction → I → I → Kept → Type 0
-  Behind true h number task dir before after now =
-      (IsTrue tells → (view after).world ≡ (view before).world) × Rose (view before).blocks (view after).blocks
+  Behind true h number task dir before after now = IsTrue memory → is_file_at (view before).world h ≡ true → ⊥
   Behind false h number task dir before after now = (record_at now h ≡ None) ⊎ IsWaiting now h number task dir
 
   by_file : (b : Bool) (h number task : ℕ) (dir : Direction) (slot new : Option (Slot Rented)) (before after : I)
-      (records left now : Kept) (back : Op)
+      (records left now : Kept) (back : Op) (course : Coursed) → NextIf course (request_in slot)
       → CallsOnce (is_met_at records (if b then None else Some (h, dir))) buffer_of_rent called slot before new after
       (Ok (polled.Pending back))
-      → LeavesFor {B = Rented} (if b then None else Some (h, dir)) left number task now (Ok (polled.Pending back))
+      → LeavesFor {B = Rented} (if b then None else Some (h, dir)) left number task now (Ok (polled.Pending back)) → h ≡ course.pipe
       → Behind b h number task dir before after now
-  by_file true h number task dir slot new before after records left now back calls leaves =
+  by_file true h number task dir slot new before after records left now back course moves calls leaves same = λ told one.
       let does = law before (plain_request buffer_of_rent calls.made.request) after (plain_request buffer_of_rent calls.now) WouldBlock
       calls.made.calls in
-      (does.0.world, does.1)
-  by_file false h number task dir slot new before after records left now back calls leaves =
+      file_made told course calls.made.request (view before).world (subst (NextIf course) calls.made.asked moves)
+      (ap (is_file_at (view before).world) (sym same) ∙ one) (does.2 told).0
+  by_file false h number task dir slot new before after records left now back course moves calls leaves same =
       pending_leaves left now h number task dir Rented back leaves
 
   -- An operation of which a poll is pending is in flight.
@@ -132,15 +130,15 @@ module _ {I : Type 0} (files : I → ℕ → Bool) (view : I → IoView) (tells 
       (Ok (polled.Pending back))) none calls).made.flies
 
   -- So one that moves bytes of a pipe waits for a direction of it.
-  pipe_awaits : (slot new : Option (Slot Rented)) (pipe : ℕ) (before after : I) (records : Kept) (back : Op)
-      → MovesIf pipe (request_in slot)
+  pipe_awaits : (slot new : Option (Slot Rented)) (course : Coursed) (before after : I) (records : Kept) (back : Op)
+      → NextIf course (request_in slot)
       → CallsOnce (is_met_at records (unless (files before) (slot_awaits slot))) buffer_of_rent called slot before new after
-      (Ok (polled.Pending back)) → (dir : Direction) × (slot_awaits slot ≡ Some (pipe, dir))
-  pipe_awaits None new pipe before after records back moves calls = absurd moves
-  pipe_awaits (Some slot) new pipe before after records back moves calls = by (is_flying slot.life) refl
+      (Ok (polled.Pending back)) → (dir : Direction) × (slot_awaits slot ≡ Some (course.pipe, dir))
+  pipe_awaits None new course before after records back moves calls = absurd moves
+  pipe_awaits (Some slot) new course before after records back moves calls = by (is_flying slot.life) refl
     where
-      by : (b : Bool) → is_flying slot.life ≡ b → (dir : Direction) × (slot_awaits (Some slot) ≡ Some (pipe, dir))
-      by true flies = let way = moves_awaits pipe slot.request moves in (way.0, ap (λ b. awaits_if b slot.request) flies ∙ way.1)
+      by : (b : Bool) → is_flying slot.life ≡ b → (dir : Direction) × (slot_awaits (Some slot) ≡ Some (course.pipe, dir))
+      by true flies = let way = moves_awaits course slot.request moves in (way.0, ap (λ b. awaits_if b slot.request) flies ∙ way.1)
       by false still =
           let flies = flies_pending (Some slot) new before after records back (ap (λ b. awaits_if b slot.request) still) calls in
           absurd (true≢false (sym flies ∙ still))
@@ -158,40 +156,47 @@ module _ {I : Type 0} (files : I → ℕ → Bool) (view : I → IoView) (tells 
       ∙ sym (flying_awaits slot calls.made.request calls.made.asked calls.made.flies) ∙ is
 
   -- What a pending poll of a job's operation leaves.
-  module _ (old new : LegacyState I Rented) (op back : Op) (task pipe : ℕ)
+  module _ (filed : IsTrue memory → (io : I) (h : ℕ) → files io h ≡ is_file_at (view io).world h) (old new : LegacyState I Rented)
+      (op back : Op) (task : ℕ) (course : Coursed)
       (ends : PollEndsFor files buffer_of_rent called view tells memory old new op task (Ok (polled.Pending back)))
-      (moves : MovesIf pipe (request_in (map.get old.slots.values op.key))) where
-    way : (dir : Direction) × (slot_awaits (map.get old.slots.values op.key) ≡ Some (pipe, dir))
-    way = pipe_awaits (map.get old.slots.values op.key) (map.get new.slots.values op.key) pipe old.handling.io new.handling.io
+      (moves : NextIf course (request_in (map.get old.slots.values op.key))) where
+    way : (dir : Direction) × (slot_awaits (map.get old.slots.values op.key) ≡ Some (course.pipe, dir))
+    way = pipe_awaits (map.get old.slots.values op.key) (map.get new.slots.values op.key) course old.handling.io new.handling.io
         old.handling.records back moves ends.2
 
-    behind : Behind (files old.handling.io pipe) pipe op.number task way.0 old.handling.io new.handling.io new.handling.records
-    behind = by_file (files old.handling.io pipe) pipe op.number task way.0 (map.get old.slots.values op.key)
+    behind : Behind (files old.handling.io course.pipe) course.pipe op.number task way.0 old.handling.io new.handling.io
+        new.handling.records
+    behind = by_file (files old.handling.io course.pipe) course.pipe op.number task way.0 (map.get old.slots.values op.key)
         (map.get new.slots.values op.key) old.handling.io new.handling.io old.handling.records ends.0.records new.handling.records back
+        course moves
         (subst (λ a. CallsOnce (is_met_at old.handling.records (unless (files old.handling.io) a)) buffer_of_rent called
         (map.get old.slots.values op.key) old.handling.io (map.get new.slots.values op.key) new.handling.io (Ok (polled.Pending back)))
         way.1 ends.2)
         (subst (λ a. LeavesFor {B = Rented} (unless (files old.handling.io) a) ends.0.records op.number task new.handling.records
-        (Ok (polled.Pending back))) way.1 ends.0.leaves)
+        (Ok (polled.Pending back))) way.1 ends.0.leaves) refl
 
-    -- Where its pipe is no file, it is listed with the task.
-    pub pending_listed : files old.handling.io pipe ≡ false → PollsSlotFor (ops_in old) (ops_in new) op (Ok (polled.Pending back))
-        → back ≡ op → AreRecorded new.handling.table new.handling.records → is_known new.handling.table pipe ≡ true
-        → IsListed new pipe back task
-    pending_listed none_of_it slots own recorded known = subst (λ o. IsListed new pipe o task) (sym own) (record {
+    -- Where its pipe is no file, it is listed with the task; and where it is one, nothing is reported of it.
+    listed : (b : Bool) → files old.handling.io course.pipe ≡ b
+        → Behind b course.pipe op.number task way.0 old.handling.io new.handling.io new.handling.records
+        → PollsSlotFor (ops_in old) (ops_in new) op (Ok (polled.Pending back)) → AreRecorded new.handling.table new.handling.records
+        → is_known new.handling.table course.pipe ≡ true → IsListed new course.pipe op task ⊎ IsUnreported files memory course.pipe
+    listed false none (inl gone) slots recorded known =
+        absurd (true≢false (sym known ∙ sym (recorded course.pipe) ∙ ap is_some gone))
+    listed false none (inr waits) slots recorded known = inl (record {
       direction = way.0;
       awaits = awaits_still (is_met_at old.handling.records (unless (files old.handling.io)
           (slot_awaits (map.get old.slots.values op.key)))) (map.get old.slots.values op.key) (map.get new.slots.values op.key)
-          old.handling.io new.handling.io back (Some (pipe, way.0)) ends.2 (λ outcome. (slots.completed outcome).0) way.1;
-      waits = elim (subst (λ b. Behind b pipe op.number task way.0 old.handling.io new.handling.io new.handling.records)
-          none_of_it behind) [
-            | inl none ↦ absurd (true≢false (sym known ∙ sym (recorded pipe) ∙ ap is_some none))
-            | inr waits ↦ waits
-          ];
+          old.handling.io new.handling.io back (Some (course.pipe, way.0)) ends.2 (λ outcome. (slots.completed outcome).0) way.1;
+      waits = waits;
+    })
+    listed true one blocked slots recorded known = inr (record {
+      before = old.handling.io;
+      is = one;
+      never = λ told. blocked told (sym (filed told old.handling.io course.pipe) ∙ one);
     })
 
-    -- Where it is one, its call would have blocked.
-    pub pending_blocks : files old.handling.io pipe ≡ true → BlocksFile files view tells old new pipe
-    pending_blocks one =
-        let blocked = subst (λ b. Behind b pipe op.number task way.0 old.handling.io new.handling.io new.handling.records) one behind in
-        record { before = old.handling.io; is = one; world = blocked.0; blocks = blocked.1 }
+    pub pending_listed : PollsSlotFor (ops_in old) (ops_in new) op (Ok (polled.Pending back)) → back ≡ op
+        → AreRecorded new.handling.table new.handling.records → is_known new.handling.table course.pipe ≡ true
+        → IsListed new course.pipe back task ⊎ IsUnreported files memory course.pipe
+    pending_listed slots own recorded known = subst (λ o. IsListed new course.pipe o task ⊎ IsUnreported files memory course.pipe) (sym own)
+        (listed (files old.handling.io course.pipe) refl behind slots recorded known)

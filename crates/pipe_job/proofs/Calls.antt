@@ -1,9 +1,7 @@
 -- What the call of a poll says of the job whose operation it is.
 use Rattle.std.proofs.Common.{ℕ, ◌≡◌, ◌∙◌, ap, sym, refl, subst, Bool, true, false, Option, Some, None, Ok, Err, arith, inl, inr}
-use Rattle.std.specs.Prelude.{Result, suc, if◌then◌else◌, unwrap_or, option_map}
+use Rattle.std.specs.Prelude.{IsTrue, Result, suc, if◌then◌else◌, unwrap_or, option_map}
 use Rattle.std.specs.FinMap as map
-use Rattle.rent_buf.specs.declared.fault.IoFault.{IoFault}
-use Rattle.rent_buf.specs.declared.fault.IoFault.TheVariants as fault
 use Rattle.ring_core.specs.declared.request.Outcome.{Outcome}
 use Rattle.ring_core.specs.declared.request.Outcome.TheVariants.{Count, From, Made, Fail}
 use Rattle.ring_core.specs.declared.request.TheConstants.{CANCELED}
@@ -22,7 +20,7 @@ use Rattle.ready_driver.specs.Records.{Kept, changed, io_at, quiet, with_io}
 use Rattle.ready_driver.specs.Registry.{Handling, TriesFor}
 use Rattle.ready_driver.specs.ScheduledIo.{entry_of}
 use Rattle.ready_driver.proofs.Bearing.{bits-kept}
-use Rattle.pipe_job.specs.Causes.{PipeFaultFor, WaitsFor}
+use Rattle.pipe_job.specs.Causes.{OsFor, WaitsFor}
 use Rattle.pipe_job.specs.declared.step.Wait.TheVariants.{Waiting}
 use Rattle.rent_buf.specs.Buffer.{Buffer}
 use Rattle.rent_buf.specs.Parts.{Parts}
@@ -38,8 +36,8 @@ use Rattle.driver_core.specs.declared.operations.calls.CallAnswer.TheVariants.{D
 use Rattle.driver_core.specs.declared.slot.Slot.{Slot}
 use Rattle.ready_driver.specs.Calling.{Called, CallsOnce, request_in}
 use Rattle.ready_driver.specs.Io.{IoView, CallsFor, EndsFor, IsLater, made_after}
-use Rattle.pipe_job.specs.Course.{IsFaultOf, MovesOn}
-use Rattle.pipe_job.specs.Waits.{FitsWait, IsOwn, MovesIf}
+use Rattle.pipe_job.specs.Course.{Coursed, IsNext}
+use Rattle.pipe_job.specs.Waits.{FitsWait, IsOwn, NextIf}
 
 -- What an object says of its calls.
 abbrev pub Lawful : {I : Type 0} → (I → IoView) → Bool → Bool → Called I → Type 0
@@ -53,33 +51,35 @@ module _ {I : Type 0} (view : I → IoView) (tells memory : Bool) (called : Call
   same_later old = record { faults = omega arith; blocks = omega arith; fails = omega arith }
 
   -- A call that wasn't made leaves what a slot's request moves.
-  unmade_moves : (pipe : ℕ) (slot new : Option (Slot Rented)) (before after : I) (now request : Request Rented Parts)
+  unmade_moves : (course : Coursed) (slot new : Option (Slot Rented)) (before after : I) (now request : Request Rented Parts)
       → request_in slot ≡ Some request → request_in new ≡ Some now → plain_request buffer_of_rent now ≡ plain_request buffer_of_rent request
-      → MovesIf pipe (request_in slot) → MovesIf pipe (request_in new)
-  unmade_moves pipe slot new before after now request asked stays same moves =
-      let asks : MovesOn pipe (plain_request buffer_of_rent request) = subst (MovesIf pipe) asked moves in
-      let keeps : MovesIf pipe (Some now) = subst (MovesOn pipe) (sym same) asks in
-      subst (MovesIf pipe) (sym stays) keeps
+      → NextIf course (request_in slot) → NextIf course (request_in new)
+  unmade_moves course slot new before after now request asked stays same moves =
+      let asks : IsNext course (plain_request buffer_of_rent request) = subst (NextIf course) asked moves in
+      let keeps : NextIf course (Some now) = subst (IsNext course) (sym same) asks in
+      subst (NextIf course) (sym stays) keeps
 
   -- A pending poll leaves what its slot's request moves, and the object's counts don't fall.
-  pub pending_moves : (b : Bool) (pipe : ℕ) (slot new : Option (Slot Rented)) (before after : I) (back : Op)
-      → CallsOnce b buffer_of_rent called slot before new after (Ok (Pending back)) → MovesIf pipe (request_in slot)
-      → MovesIf pipe (request_in new)
-  pending_moves false pipe slot new before after back calls moves = subst (λ s. MovesIf pipe (request_in s)) (sym calls.slot_is) moves
-  pending_moves true pipe slot new before after back calls moves =
+  pub pending_moves : (b : Bool) (course : Coursed) (slot new : Option (Slot Rented)) (before after : I) (back : Op)
+      → CallsOnce b buffer_of_rent called slot before new after (Ok (Pending back)) → NextIf course (request_in slot)
+      → NextIf course (request_in new)
+  pending_moves false course slot new before after back calls moves = subst (λ s. NextIf course (request_in s)) (sym calls.slot_is) moves
+  pending_moves true course slot new before after back calls moves =
       let does = law before (plain_request buffer_of_rent calls.made.request) after (plain_request buffer_of_rent calls.now) WouldBlock
       calls.made.calls in
-      unmade_moves pipe slot new before after calls.now calls.made.request calls.made.asked calls.stays does.0.same moves
+      unmade_moves course slot new before after calls.now calls.made.request calls.made.asked calls.stays does.0.same moves
 
   -- So does one for which memory ran out.
-  pub starved_moves : (b : Bool) (pipe : ℕ) (slot new : Option (Slot Rented)) (before after : I) (error : NoMemory × Op)
-      → CallsOnce b buffer_of_rent called slot before new after (Err error) → MovesIf pipe (request_in slot) → MovesIf pipe (request_in new)
-  starved_moves false pipe slot new before after error calls moves = subst (λ s. MovesIf pipe (request_in s)) (sym calls.slot_is) moves
-  starved_moves true pipe slot new before after error (inl none) moves = subst (λ s. MovesIf pipe (request_in s)) (sym none.slot_is) moves
-  starved_moves true pipe slot new before after error (inr calls) moves =
+  pub starved_moves : (b : Bool) (course : Coursed) (slot new : Option (Slot Rented)) (before after : I) (error : NoMemory × Op)
+      → CallsOnce b buffer_of_rent called slot before new after (Err error) → NextIf course (request_in slot)
+      → NextIf course (request_in new)
+  starved_moves false course slot new before after error calls moves = subst (λ s. NextIf course (request_in s)) (sym calls.slot_is) moves
+  starved_moves true course slot new before after error (inl none) moves = subst (λ s. NextIf course (request_in s))
+      (sym none.slot_is) moves
+  starved_moves true course slot new before after error (inr calls) moves =
       let does = law before (plain_request buffer_of_rent calls.made.request) after (plain_request buffer_of_rent calls.now) OutOfMemory
       calls.made.calls in
-      unmade_moves pipe slot new before after calls.now calls.made.request calls.made.asked calls.stays does.0.same moves
+      unmade_moves course slot new before after calls.now calls.made.request calls.made.asked calls.stays does.0.same moves
 
   -- The counts of the object don't fall in a poll's call.
   pub called_later : (b : Bool) (slot new : Option (Slot Rented)) (before after : I) (result : Result (PollOp Rented) (NoMemory × Op))
@@ -103,35 +103,53 @@ module _ {I : Type 0} (view : I → IoView) (tells memory : Bool) (called : Call
       (law before (plain_request buffer_of_rent calls.made.request) after (plain_request buffer_of_rent calls.now) OutOfMemory
       calls.made.calls).0.later
 
+  -- A poll that returns no operation moves no bytes.
+  pub pending_world : (b : Bool) (slot new : Option (Slot Rented)) (before after : I) (back : Op)
+      → CallsOnce b buffer_of_rent called slot before new after (Ok (Pending back)) → IsTrue tells
+      → (view after).world ≡ (view before).world
+  pending_world false slot new before after back calls t = ap (λ io. (view io).world) calls.object
+  pending_world true slot new before after back calls t =
+      (law before (plain_request buffer_of_rent calls.made.request) after (plain_request buffer_of_rent calls.now) WouldBlock
+      calls.made.calls).0.world t
+
+  pub starved_world : (b : Bool) (slot new : Option (Slot Rented)) (before after : I) (error : NoMemory × Op)
+      → CallsOnce b buffer_of_rent called slot before new after (Err error) → IsTrue tells → (view after).world ≡ (view before).world
+  starved_world false slot new before after error calls t = ap (λ io. (view io).world) calls.object
+  starved_world true slot new before after error (inl none) t = ap (λ io. (view io).world) none.object
+  starved_world true slot new before after error (inr calls) t =
+      (law before (plain_request buffer_of_rent calls.made.request) after (plain_request buffer_of_rent calls.now) OutOfMemory
+      calls.made.calls).0.world t
+
   -- A job that waits for its operation fits the driver still.
-  pub pending_fit : (files : I → ℕ → Bool) (old new : LegacyState I Rented) (op back : Op) (task pipe cancels : ℕ)
+  pub pending_fit : (files : I → ℕ → Bool) (old new : LegacyState I Rented) (op back : Op) (task : ℕ) (course : Coursed) (cancels : ℕ)
       → PollEndsFor files buffer_of_rent called view tells memory old new op task (Ok (Pending back))
       → PollsSlotFor (ops_in old) (ops_in new) op (Ok (Pending back)) → TokensFor (ops_in old) (ops_in new) op (Ok (Pending back))
-      → new.given ≡ old.given → FitsWait (ops_in old) pipe cancels (Waiting op) → FitsWait (ops_in new) pipe cancels (Waiting back)
-  pending_fit files old new op back task pipe cancels ends slots tokens given fits =
-      subst (λ o. FitsWait (ops_in new) pipe cancels (Waiting o)) (sym tokens.0) (
+      → new.given ≡ old.given → FitsWait (ops_in old) course cancels (Waiting op) → FitsWait (ops_in new) course cancels (Waiting back)
+  pending_fit files old new op back task course cancels ends slots tokens given fits =
+      subst (λ o. FitsWait (ops_in new) course cancels (Waiting o)) (sym tokens.0) (
         (tokens.1 op).0 fits.0,
         (let below = fits.1 in omega (arith, below, given)),
         record {
           moves = pending_moves (is_met_at old.handling.records
-              (unless (files old.handling.io) (slot_awaits (map.get old.slots.values op.key)))) pipe
+              (unless (files old.handling.io) (slot_awaits (map.get old.slots.values op.key)))) course
               (map.get old.slots.values op.key) (map.get new.slots.values op.key) old.handling.io new.handling.io back ends.2 fits.2.moves;
           asked = λ outcome is. fits.2.asked outcome ((slots.completed outcome).0 is);
         },
       )
 
   -- So does one for which memory ran out.
-  pub starved_fit : (files : I → ℕ → Bool) (old new : LegacyState I Rented) (op : Op) (error : NoMemory × Op) (task pipe cancels : ℕ)
+  pub starved_fit : (files : I → ℕ → Bool) (old new : LegacyState I Rented) (op : Op) (error : NoMemory
+      × Op) (task : ℕ) (course : Coursed) (cancels : ℕ)
       → PollEndsFor files buffer_of_rent called view tells memory old new op task (Err error)
       → PollsSlotFor (ops_in old) (ops_in new) op (Err error) → TokensFor (ops_in old) (ops_in new) op (Err error)
-      → new.given ≡ old.given → FitsWait (ops_in old) pipe cancels (Waiting op) → FitsWait (ops_in new) pipe cancels (Waiting error.1)
-  starved_fit files old new op error task pipe cancels ends slots tokens given fits =
-      subst (λ o. FitsWait (ops_in new) pipe cancels (Waiting o)) (sym tokens.0) (
+      → new.given ≡ old.given → FitsWait (ops_in old) course cancels (Waiting op) → FitsWait (ops_in new) course cancels (Waiting error.1)
+  starved_fit files old new op error task course cancels ends slots tokens given fits =
+      subst (λ o. FitsWait (ops_in new) course cancels (Waiting o)) (sym tokens.0) (
         (tokens.1 op).0 fits.0,
         (let below = fits.1 in omega (arith, below, given)),
         record {
           moves = starved_moves (is_met_at old.handling.records
-              (unless (files old.handling.io) (slot_awaits (map.get old.slots.values op.key)))) pipe
+              (unless (files old.handling.io) (slot_awaits (map.get old.slots.values op.key)))) course
               (map.get old.slots.values op.key) (map.get new.slots.values op.key) old.handling.io new.handling.io error ends.2 fits.2.moves;
           asked = λ outcome is. fits.2.asked outcome ((slots.completed outcome).0 is);
         },
@@ -183,87 +201,81 @@ module _ {I : Type 0} (view : I → IoView) (tells memory : Bool) (called : Call
           (unmet_after (files old.handling.io) (slot_awaits (map.get old.slots.values op.key)) old.handling.records ends.0.records
           new.handling.records op.number task back unmet ends.0.room ends.0.leaves))
 
--- A request that moves bytes of a pipe makes no handle.
-moves_makes : {B V : Type 0} (pipe : ℕ) (request : Request B V) → MovesOn pipe request → makes request ≡ false
-moves_makes pipe (request.Recv fd buf) moves = refl
-moves_makes pipe (request.Send fd buf) moves = refl
-moves_makes pipe (request.ReadVec fd parts) moves = absurd moves
-moves_makes pipe (request.WriteVec fd parts) moves = absurd moves
-moves_makes pipe (request.RecvMsg fd buf) moves = absurd moves
-moves_makes pipe (request.SendMsg fd addr buf) moves = absurd moves
-moves_makes pipe (request.Read fd pos buf) moves = absurd moves
-moves_makes pipe (request.Write fd pos buf) moves = absurd moves
-moves_makes pipe (request.SpliceTo fd to len) moves = absurd moves
-moves_makes pipe (request.SpliceFrom from fd len) moves = absurd moves
-moves_makes pipe (request.Accept fd) moves = absurd moves
-moves_makes pipe (request.Open path flags mode) moves = absurd moves
-moves_makes pipe (request.Connect fd addr) moves = absurd moves
-moves_makes pipe (request.Fsync fd data_only) moves = absurd moves
-moves_makes pipe (request.PollAdd fd read) moves = absurd moves
-moves_makes pipe (request.MkDir path mode) moves = absurd moves
-moves_makes pipe (request.Rename from to) moves = absurd moves
-moves_makes pipe (request.Unlink path remove_dir) moves = absurd moves
+-- A job's next request makes no handle.
+pub moves_makes : (course : Coursed) (request : Request Buffer Parts) → IsNext course request → makes request ≡ false
+moves_makes course (request.Recv fd buf) moves = refl
+moves_makes course (request.Send fd buf) moves = refl
+moves_makes course (request.ReadVec fd parts) moves = absurd moves
+moves_makes course (request.WriteVec fd parts) moves = absurd moves
+moves_makes course (request.RecvMsg fd buf) moves = absurd moves
+moves_makes course (request.SendMsg fd addr buf) moves = absurd moves
+moves_makes course (request.Read fd pos buf) moves = absurd moves
+moves_makes course (request.Write fd pos buf) moves = absurd moves
+moves_makes course (request.SpliceTo fd to len) moves = absurd moves
+moves_makes course (request.SpliceFrom from fd len) moves = absurd moves
+moves_makes course (request.Accept fd) moves = absurd moves
+moves_makes course (request.Open path flags mode) moves = absurd moves
+moves_makes course (request.Connect fd addr) moves = absurd moves
+moves_makes course (request.Fsync fd data_only) moves = absurd moves
+moves_makes course (request.PollAdd fd read) moves = absurd moves
+moves_makes course (request.MkDir path mode) moves = absurd moves
+moves_makes course (request.Rename from to) moves = absurd moves
+moves_makes course (request.Unlink path remove_dir) moves = absurd moves
 
 -- Its call leaves how many handles an object made.
-made_stays : (pipe : ℕ) (asked now : Request Buffer Parts) (call : Outcome) (made : ℕ) → MovesOn pipe asked → EndsFor asked now call
+made_stays : (course : Coursed) (asked now : Request Buffer Parts) (call : Outcome) (made : ℕ) → IsNext course asked
+    → EndsFor asked now call
     → made_after call made ≡ made
-made_stays pipe asked now (Count k) made moves ends = refl
-made_stays pipe asked now (From k addr) made moves ends = refl
-made_stays pipe asked now (Fail e) made moves ends = refl
-made_stays pipe asked now (Made h) made moves ends =
-    absurd (let none : true ≡ false = sym ends.0 ∙ moves_makes pipe asked moves in cc)
+made_stays course asked now (Count k) made moves ends = refl
+made_stays course asked now (From k addr) made moves ends = refl
+made_stays course asked now (Fail e) made moves ends = refl
+made_stays course asked now (Made h) made moves ends =
+    absurd (let none : true ≡ false = sym ends.0 ∙ moves_makes course asked moves in cc)
 
 module _ {I : Type 0} (view : I → IoView) (tells memory : Bool) (called : Called I) (law : Lawful view tells memory called) where
   -- The call of a job's operation made no handle.
-  call_makes : (b : Bool) (pipe : ℕ) (slot new : Option (Slot Rented)) (before after : I) (done : Ended Rented)
-      → MovesIf pipe (request_in slot)
+  call_makes : (b : Bool) (course : Coursed) (slot new : Option (Slot Rented)) (before after : I) (done : Ended Rented)
+      → NextIf course (request_in slot)
       → CallsOnce b buffer_of_rent called slot before new after (Ok (Ready done)) → (view after).made ≡ (view before).made
-  call_makes false pipe slot new before after done moves calls = absurd calls
-  call_makes true pipe slot new before after done moves (inl none) = ap (λ io. (view io).made) none.0
-  call_makes true pipe slot new before after done moves (inr made) =
+  call_makes false course slot new before after done moves calls = absurd calls
+  call_makes true course slot new before after done moves (inl none) = ap (λ io. (view io).made) none.0
+  call_makes true course slot new before after done moves (inr made) =
       let does = law before (plain_request buffer_of_rent made.request) after (plain_request buffer_of_rent done.request)
       (Done done.outcome) made.calls in
-      does.made ∙ made_stays pipe (plain_request buffer_of_rent made.request) (plain_request buffer_of_rent done.request) done.outcome
-      (view before).made (subst (MovesIf pipe) made.asked moves) does.ends
+      does.made ∙ made_stays course (plain_request buffer_of_rent made.request) (plain_request buffer_of_rent done.request) done.outcome
+      (view before).made (subst (NextIf course) made.asked moves) does.ends
 
   -- Nor did the poll in which it failed.
-  poll_makes : (files : I → ℕ → Bool) (old new : LegacyState I Rented) (op : Op) (task pipe : ℕ) (done : Ended Rented) (e : ℕ)
+  poll_makes : (files : I → ℕ → Bool) (old new : LegacyState I Rented) (op : Op) (task : ℕ) (course : Coursed) (done : Ended Rented) (e : ℕ)
       → EndsOp files buffer_of_rent called view tells memory old new op task done → done.outcome ≡ Fail e
-      → MovesIf pipe (request_in (map.get old.slots.values op.key)) → (view new.handling.io).made ≡ (view old.handling.io).made
-  poll_makes files old new op task pipe done e ends fails moves =
+      → NextIf course (request_in (map.get old.slots.values op.key)) → (view new.handling.io).made ≡ (view old.handling.io).made
+  poll_makes files old new op task course done e ends fails moves =
       let none : ends.handed ≡ ends.mid = subst (λ o. HandsOver view tells memory ends.mid (made_by o) ends.handed) fails ends.hands in
       ends.lets.object.made ∙ ap (λ h. (view h.io).made) none
-      ∙ call_makes (is_met_at old.handling.records (unless (files old.handling.io) (slot_awaits (map.get old.slots.values op.key)))) pipe
+      ∙ call_makes (is_met_at old.handling.records (unless (files old.handling.io) (slot_awaits (map.get old.slots.values op.key)))) course
       (map.get old.slots.values op.key) (map.get new.slots.values op.key) old.handling.io ends.mid.io (record done { outcome = ends.call })
       moves ends.calls
 
-  -- The causes of an error of a job's operation.
-  error_causes : (files : I → ℕ → Bool) (old new : LegacyState I Rented) (op : Op) (pipe cancels e : ℕ)
+  -- The causes of an error with which a job's operation ends.
+  error_by : (old new : LegacyState I Rented) (op : Op) (course : Coursed) (cancels e : ℕ) (own : Type 0)
       → ErrorFor old.handling.table (map.get old.slots.values op.key) (view old.handling.io) (view new.handling.io) (Fail e)
-      → (view new.handling.io).made ≡ (view old.handling.io).made → IsOwn pipe cancels (map.get old.slots.values op.key)
-      → PipeFaultFor files view tells pipe cancels old new (fault.Os e)
-  error_causes files old new op pipe cancels e (inl rose) made own = inl rose
-  error_causes files old new op pipe cancels e (inr (inl asked)) made own = inr (inl (asked.error, own.asked (Fail CANCELED) asked.asked))
-  error_causes files old new op pipe cancels e (inr (inr refused)) made own =
+      → (view new.handling.io).made ≡ (view old.handling.io).made → IsOwn course cancels (map.get old.slots.values op.key)
+      → OsFor view tells course.pipe cancels own old new e
+  error_by old new op course cancels e own (inl rose) made is = inl rose
+  error_by old new op course cancels e own (inr (inl asked)) made is = inr (inl (asked.error, (is.asked (Fail CANCELED) asked.asked).0))
+  error_by old new op course cancels e own (inr (inr refused)) made is =
       absurd (let more = refused.made in let same : suc (view old.handling.io).made ≡ (view old.handling.io).made = sym more ∙ made in
       omega (arith, same))
 
-  -- The causes of a fault with which a job's operation ends.
-  pub ready_causes : (files : I → ℕ → Bool) (old new : LegacyState I Rented) (op : Op) (task pipe cancels : ℕ) (done : Ended Rented)
-      (why : IoFault)
+  pub error_causes : (files : I → ℕ → Bool) (old new : LegacyState I Rented) (op : Op) (task : ℕ) (course : Coursed) (cancels e : ℕ)
+      (own : Type 0) (done : Ended Rented)
       → EndsOp files buffer_of_rent called view tells memory old new op task done → FailsFor view old new op (Ok (Ready done))
-      → FitsWait (ops_in old) pipe cancels (Waiting op) → IsFaultOf done.outcome why
-      → PipeFaultFor files view tells pipe cancels old new why
-  ready_causes files old new op task pipe cancels done (fault.Os e) ends fails fits is =
-      error_causes files old new op pipe cancels e
+      → FitsWait (ops_in old) course cancels (Waiting op) → done.outcome ≡ Fail e
+      → OsFor view tells course.pipe cancels own old new e
+  error_causes files old new op task course cancels e own done ends fails fits is =
+      error_by old new op course cancels e own
       (subst (ErrorFor old.handling.table (map.get old.slots.values op.key) (view old.handling.io) (view new.handling.io)) is fails)
-      (poll_makes files old new op task pipe done e ends is fits.2.moves) fits.2
-  ready_causes files old new op task pipe cancels done fault.UnexpectedEof ends fails fits is = tt
-  ready_causes files old new op task pipe cancels done fault.WriteZero ends fails fits is = tt
-  ready_causes files old new op task pipe cancels done fault.InvalidData ends fails fits is = tt
-  ready_causes files old new op task pipe cancels done fault.ReadFault ends fails fits is = absurd is
-  ready_causes files old new op task pipe cancels done fault.WriteFault ends fails fits is = absurd is
-  ready_causes files old new op task pipe cancels done fault.OutOfMemory ends fails fits is = absurd is
+      (poll_makes files old new op task course done e ends is fits.2.moves) fits.2
 
   -- Counts of two calls in a row.
   both_later : (one two three : IoView) → IsLater one two → IsLater two three → IsLater one three

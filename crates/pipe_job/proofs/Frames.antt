@@ -1,6 +1,7 @@
 -- What calls on operations leave of jobs that wait for others.
-use Rattle.std.proofs.Common.{ℕ, ◌≡◌, ◌≢◌, ◌≤◌, ◌<◌, ◌+◌, ◌∙◌, ap, sym, refl, subst, Bool, true, false, Option, Some, None, Ok, Err, arith}
-use Rattle.std.specs.Prelude.{Result, option_map}
+use Rattle.std.proofs.Common.{ℕ, ◌≡◌, ◌≢◌, ◌≤◌, ◌<◌, ◌+◌, ◌∙◌, ◌⊎◌, inl, inr, ap, sym, refl, subst, Bool, true, false, Option, Some, None}
+use Rattle.std.proofs.Common.{Ok, Err, arith}
+use Rattle.std.specs.Prelude.{OnOk, Result, option_map}
 use Rattle.std.specs.FinMap as map
 use Rattle.std.specs.Ordering.{nat_cmp}
 use Rattle.rent_buf.specs.Parts.{Parts}
@@ -8,7 +9,9 @@ use Rattle.rent_buf.specs.Rent.{Rented, buffer_of_rent}
 use Rattle.rent_buf.specs.declared.fault.OutOfMemory.{OutOfMemory}
 use Rattle.op_slots.specs.declared.lifecycle.Lifecycle.TheVariants.{Submitted, Completed}
 use Rattle.ring_core.specs.declared.request.Request.{Request}
+use Rattle.ring_core.specs.declared.request.TheConstants.{CANCELED}
 use Rattle.ring_core.specs.declared.request.Outcome.{Outcome}
+use Rattle.ring_core.specs.declared.request.Outcome.TheVariants.{Fail}
 use Rattle.ring_core.specs.Request.{plain_request}
 use Rattle.driver_core.specs.declared.op.Op.{Op}
 use Rattle.driver_core.specs.declared.op.PollOp.{PollOp}
@@ -24,9 +27,9 @@ use Rattle.core_exec.specs.Tasks.{AreSound, IsApart}
 use Rattle.ready_driver.specs.Calling.{request_in}
 use Rattle.ready_driver.specs.LegacyState.{LegacyState, ops_in}
 use Rattle.ready_driver.specs.Named.{PollsSlotFor, IsCompleted, canceled_if, canceled_in, canceled_slots}
-use Rattle.pipe_job.specs.Course.{MovesOn}
+use Rattle.pipe_job.specs.Course.{Coursed, IsNext}
 use Rattle.pipe_job.specs.PipeJob.{ApartPipes, FitsPipe, HoldsPipe}
-use Rattle.pipe_job.specs.Waits.{ApartWaits, FitsWait, HoldsWait, IsOwn, KeepsApart, MovesIf}
+use Rattle.pipe_job.specs.Waits.{ApartWaits, FitsWait, HoldsWait, IsOwn, KeepsApart, NextIf}
 use Rattle.pipe_job.specs.declared.pipe_job.PipeJob.{PipeJob}
 use Rattle.pipe_job.specs.declared.step.Wait.{Wait}
 use Rattle.pipe_job.specs.declared.step.Wait.TheVariants.{Room, Waiting}
@@ -43,23 +46,24 @@ pub other_key : (ops : Ops Rented) (op other : Op) → Holds ops op → Holds op
 other_key ops op other holds held apart = λ same. apart (sym (ap number_of (same_token ops op other holds held same)))
 
 -- What fits a driver is held by it.
-pub fits_holds : (ops : Ops Rented) (pipe cancels : ℕ) (wait : Wait) → FitsWait ops pipe cancels wait → HoldsWait ops wait
-fits_holds ops pipe cancels (Room room) fits = tt
-fits_holds ops pipe cancels (Waiting op) fits = fits.0
+pub fits_holds : (ops : Ops Rented) (course : Coursed) (cancels : ℕ) (wait : Wait) → FitsWait ops course cancels wait → HoldsWait ops wait
+fits_holds ops course cancels (Room room) fits = tt
+fits_holds ops course cancels (Waiting op) fits = fits.0
 
 -- An operation whose slot stays is that of its job still.
-stays_fit : (old new : Ops Rented) (other : Op) (pipe cancels : ℕ) → map.get new.slots.values other.key ≡ map.get old.slots.values other.key
-    → old.given ≤ new.given → FitsWait old pipe cancels (Waiting other) → FitsWait new pipe cancels (Waiting other)
-stays_fit old new other pipe cancels same given fits =
-    (ap serial_of same ∙ fits.0, let below = fits.1 in omega (arith, below, given), subst (IsOwn pipe cancels) (sym same) fits.2)
+stays_fit : (old new : Ops Rented) (other : Op) (course : Coursed) (cancels : ℕ)
+    → map.get new.slots.values other.key ≡ map.get old.slots.values other.key
+    → old.given ≤ new.given → FitsWait old course cancels (Waiting other) → FitsWait new course cancels (Waiting other)
+stays_fit old new other course cancels same given fits =
+    (ap serial_of same ∙ fits.0, let below = fits.1 in omega (arith, below, given), subst (IsOwn course cancels) (sym same) fits.2)
 
 -- A call that leaves each slot but that of an operation keeps what each other job waits for.
 beside_fit_at : (old new : Ops Rented) (op : Op) → ((k : ℕ) → k ≢ op.key → map.get new.slots.values k ≡ map.get old.slots.values k)
-    → old.given ≤ new.given → Holds old op → (pipe cancels : ℕ) (other : Wait) → FitsWait old pipe cancels other
-    → ApartWaits (Waiting op) other → FitsWait new pipe cancels other
-beside_fit_at old new op others given holds pipe cancels (Room room) fits apart = tt
-beside_fit_at old new op others given holds pipe cancels (Waiting other) fits apart =
-    stays_fit old new other pipe cancels (others other.key (other_key old op other holds fits.0 apart)) given fits
+    → old.given ≤ new.given → Holds old op → (course : Coursed) (cancels : ℕ) (other : Wait) → FitsWait old course cancels other
+    → ApartWaits (Waiting op) other → FitsWait new course cancels other
+beside_fit_at old new op others given holds course cancels (Room room) fits apart = tt
+beside_fit_at old new op others given holds course cancels (Waiting other) fits apart =
+    stays_fit old new other course cancels (others other.key (other_key old op other holds fits.0 apart)) given fits
 
 -- So it keeps what each other job waits for.
 beside_fit : (old new : Ops Rented) (op : Op) → ((k : ℕ) → k ≢ op.key → map.get new.slots.values k ≡ map.get old.slots.values k)
@@ -67,19 +71,23 @@ beside_fit : (old new : Ops Rented) (op : Op) → ((k : ℕ) → k ≢ op.key �
 beside_fit old new op others given holds = record { keep = beside_fit_at old new op others given holds }
 
 -- A call that leaves each slot keeps what each job waits for.
-pub all_fit : (old new : Ops Rented) → new.slots.values ≡ old.slots.values → new.given ≡ old.given → (pipe cancels : ℕ) (wait : Wait)
-    → FitsWait old pipe cancels wait → FitsWait new pipe cancels wait
-all_fit old new same given pipe cancels (Room room) fits = tt
-all_fit old new same given pipe cancels (Waiting op) fits =
-    stays_fit old new op pipe cancels (ap (λ slots. map.get slots op.key) same) (omega (arith, given)) fits
+pub all_fit : (old new : Ops Rented) → new.slots.values ≡ old.slots.values → new.given ≡ old.given
+    → (course : Coursed) (cancels : ℕ) (wait : Wait)
+    → FitsWait old course cancels wait → FitsWait new course cancels wait
+all_fit old new same given course cancels (Room room) fits = tt
+all_fit old new same given course cancels (Waiting op) fits =
+    stays_fit old new op course cancels (ap (λ slots. map.get slots op.key) same) (omega (arith, given)) fits
 
 -- So it keeps what each other job waits for.
 pub all_apart : (old new : Ops Rented) (wait : Wait) → new.slots.values ≡ old.slots.values → new.given ≡ old.given → KeepsApart old new wait
-all_apart old new wait same given = record { keep = λ pipe cancels other fits apart. all_fit old new same given pipe cancels other fits }
+all_apart old new wait same given = record {
+  keep = λ course cancels other fits apart. all_fit old new same given course cancels other
+      fits;
+}
 
 -- No call keeps all.
 pub same_fit : (ops : Ops Rented) (wait : Wait) → KeepsApart ops ops wait
-same_fit ops wait = record { keep = λ pipe cancels other fits apart. fits }
+same_fit ops wait = record { keep = λ course cancels other fits apart. fits }
 
 -- A poll keeps what each other job waits for.
 pub polled_apart : (old new : Ops Rented) (op : Op) (result : Result (PollOp Rented) (OutOfMemory × Op)) → PollsSlotFor old new op result
@@ -114,26 +122,58 @@ canceled_apart old new op slots given holds = beside_fit old new op
     (omega (arith, given)) holds
 
 -- What moves bytes in a slot is read off its request.
-moves_at : (pipe : ℕ) (one other : Option (Slot Rented)) → option_map (λ s. s.request) other ≡ option_map (λ s. s.request) one
-    → MovesIf pipe (request_in one) → MovesIf pipe (request_in other)
-moves_at pipe None None same moves = moves
-moves_at pipe None (Some other) same moves = absurd moves
-moves_at pipe (Some one) None same moves = absurd cc
-moves_at pipe (Some one) (Some other) same moves =
-    let is : other.request ≡ one.request = cc in subst (λ r. MovesOn pipe (plain_request buffer_of_rent r)) (sym is) moves
+moves_at : (course : Coursed) (one other : Option (Slot Rented)) → option_map (λ s. s.request) other ≡ option_map (λ s. s.request) one
+    → NextIf course (request_in one) → NextIf course (request_in other)
+moves_at course None None same moves = moves
+moves_at course None (Some other) same moves = absurd moves
+moves_at course (Some one) None same moves = absurd cc
+moves_at course (Some one) (Some other) same moves =
+    let is : other.request ≡ one.request = cc in subst (λ r. IsNext course (plain_request buffer_of_rent r)) (sym is) moves
+
+-- A slot is completed behind a cancel only if it was before, or with the error of a cancel.
+canceled_if-ends : (b : Bool) (slots : map.FinMap nat_cmp (Slot Rented)) (key : ℕ) (slot : Slot Rented) (outcome : Outcome)
+    → map.get slots key ≡ Some slot → IsCompleted (map.get (canceled_if b slots key slot) key) outcome
+    → (outcome ≡ Fail CANCELED) ⊎ IsCompleted (Some slot) outcome
+canceled_if-ends true slots key slot outcome there is =
+    inl (let same : Completed outcome ≡ Completed (Fail CANCELED) = sym (subst (λ s. IsCompleted s outcome)
+    (put-same slots key _) is) in cc)
+canceled_if-ends false slots key slot outcome there is = inr (subst (λ s. IsCompleted s outcome) there is)
+
+-- So it is where there may be no slot at the key.
+canceled-ends : (slots : map.FinMap nat_cmp (Slot Rented)) (key : ℕ) (slot : Option (Slot Rented)) (outcome : Outcome)
+    → map.get slots key ≡ slot → IsCompleted (map.get (canceled_in slots key slot) key) outcome
+    → (outcome ≡ Fail CANCELED) ⊎ IsCompleted slot outcome
+canceled-ends slots key None outcome there is = inr (subst (λ s. IsCompleted s outcome) there is)
+canceled-ends slots key (Some slot) outcome there is = canceled_if-ends (is_flying slot.life) slots key slot outcome there is
 
 -- A job whose cancel was asked for waits for its operation still.
-pub canceled_fits : (old new : Ops Rented) (op : Op) (pipe cancels : ℕ) → KeepsTokens old new → KeepsRequests old new
-    → new.given ≡ old.given → FitsWait old pipe cancels (Waiting op) → FitsWait new pipe (cancels + 1) (Waiting op)
-canceled_fits old new op pipe cancels tokens requests given fits =
+canceled_fits : (old new : Ops Rented) (op : Op) (course : Coursed) (cancels : ℕ) → KeepsTokens old new → KeepsRequests old new
+    → new.slots.values ≡ canceled_slots old.slots.values op.key → new.given ≡ old.given → FitsWait old course cancels (Waiting op)
+    → FitsWait new course (cancels + 1) (Waiting op)
+canceled_fits old new op course cancels tokens requests slots given fits =
     let held = (tokens op).0 fits.0 in (
       held,
       let below = fits.1 in omega (arith, below, given),
       record {
-        moves = moves_at pipe (map.get old.slots.values op.key) (map.get new.slots.values op.key) (requests op fits.0 held) fits.2.moves;
-        asked = λ outcome is none. omega (arith, none);
+        moves = moves_at course (map.get old.slots.values op.key) (map.get new.slots.values op.key) (requests op fits.0 held) fits.2.moves;
+        asked = λ outcome is. (
+          λ none. omega (arith, none),
+          elim (canceled-ends old.slots.values op.key (map.get old.slots.values op.key) outcome refl
+              (subst (λ s. IsCompleted (map.get s op.key) outcome) slots is)) [
+                | inl error ↦ error
+                | inr before ↦ (fits.2.asked outcome before).1
+              ],
+        );
       },
     )
+
+-- So it is if the cancel isn't refused.
+pub canceled_fits_if : (old new : Ops Rented) (op : Op) (course : Coursed) (cancels : ℕ) (result : Result Unit OutOfMemory)
+    → KeepsTokens old new → KeepsRequests old new → OnOk result (new.slots.values ≡ canceled_slots old.slots.values op.key)
+    → new.given ≡ old.given → FitsWait old course cancels (Waiting op) → OnOk result (FitsWait new course (cancels + 1) (Waiting op))
+canceled_fits_if old new op course cancels (Ok done) tokens requests slots given fits =
+    canceled_fits old new op course cancels tokens requests slots given fits
+canceled_fits_if old new op course cancels (Err error) tokens requests slots given fits = tt
 
 -- A new slot isn't completed.
 fresh_slot : (slot : Slot Rented) → slot.life ≡ Submitted → (outcome : Outcome) → IsCompleted (Some slot) outcome → ⊥
@@ -147,11 +187,11 @@ submitted_key old new op other adds holds below = other_key new op other adds.th
 
 -- A submission keeps what each job waits for.
 pub submitted_fits : (old new : Ops Rented) (op : Op) (request : Request Rented Parts) → AddsToken old new op
-    → new.slots.values ≡ map.insert old.slots.values op.key (new_slot old request) → (pipe cancels : ℕ) (other : Wait)
-    → FitsWait old pipe cancels other → FitsWait new pipe cancels other
-submitted_fits old new op request adds slots pipe cancels (Room room) fits = tt
-submitted_fits old new op request adds slots pipe cancels (Waiting other) fits =
-    stays_fit old new other pipe cancels
+    → new.slots.values ≡ map.insert old.slots.values op.key (new_slot old request) → (course : Coursed) (cancels : ℕ) (other : Wait)
+    → FitsWait old course cancels other → FitsWait new course cancels other
+submitted_fits old new op request adds slots course cancels (Room room) fits = tt
+submitted_fits old new op request adds slots course cancels (Waiting other) fits =
+    stays_fit old new other course cancels
     (ap (λ s. map.get s other.key) slots ∙ put-other old.slots.values op.key (new_slot old request) other.key
     (submitted_key old new op other adds fits.0 fits.1))
     (let next = adds.next in omega (arith, next)) fits
@@ -160,36 +200,37 @@ submitted_fits old new op request adds slots pipe cancels (Waiting other) fits =
 pub submitted_keeps : (old new : Ops Rented) (op : Op) (request : Request Rented Parts) (wait : Wait) → AddsToken old new op
     → new.slots.values ≡ map.insert old.slots.values op.key (new_slot old request) → KeepsApart old new wait
 submitted_keeps old new op request wait adds slots = record {
-  keep = λ pipe cancels other fits apart. submitted_fits old new op request adds slots pipe cancels other fits;
+  keep = λ course cancels other fits apart. submitted_fits old new op request adds slots course cancels other fits;
 }
 
 -- The job that submitted it waits for its operation.
-pub submitted_own : (old new : Ops Rented) (op : Op) (request : Request Rented Parts) (pipe cancels : ℕ) → AddsToken old new op
-    → new.slots.values ≡ map.insert old.slots.values op.key (new_slot old request) → MovesOn pipe (plain_request buffer_of_rent request)
-    → FitsWait new pipe cancels (Waiting op)
-submitted_own old new op request pipe cancels adds slots moves =
+pub submitted_own : (old new : Ops Rented) (op : Op) (request : Request Rented Parts) (course : Coursed) (cancels : ℕ)
+    → AddsToken old new op
+    → new.slots.values ≡ map.insert old.slots.values op.key (new_slot old request) → IsNext course (plain_request buffer_of_rent request)
+    → FitsWait new course cancels (Waiting op)
+submitted_own old new op request course cancels adds slots moves =
     let there : map.get new.slots.values op.key ≡ Some (new_slot old request) =
     ap (λ s. map.get s op.key) slots ∙ put-same old.slots.values op.key (new_slot old request) in (
       adds.this,
       (let number = adds.number in let next = adds.next in omega (arith, number, next)),
-      subst (IsOwn pipe cancels) (sym there) (record {
+      subst (IsOwn course cancels) (sym there) (record {
         moves = moves;
-        asked = λ outcome is none. fresh_slot (new_slot old request) refl outcome is;
+        asked = λ outcome is. absurd (fresh_slot (new_slot old request) refl outcome is);
       }),
     )
 
 -- Its operation is no other job's.
-pub submitted_apart : (old new : Ops Rented) (op : Op) → AddsToken old new op → (pipe cancels : ℕ) (other : Wait)
-    → FitsWait old pipe cancels other → ApartWaits (Waiting op) other
-submitted_apart old new op adds pipe cancels (Room room) fits = tt
-submitted_apart old new op adds pipe cancels (Waiting other) fits = λ same.
+pub submitted_apart : (old new : Ops Rented) (op : Op) → AddsToken old new op → (course : Coursed) (cancels : ℕ) (other : Wait)
+    → FitsWait old course cancels other → ApartWaits (Waiting op) other
+submitted_apart old new op adds course cancels (Room room) fits = tt
+submitted_apart old new op adds course cancels (Waiting other) fits = λ same.
     let below = fits.1 in let number = adds.number in omega (arith, below, number, same)
 
 -- Jobs that are sound over a driver are so behind a call that leaves each slot.
 pub kept_sound : {I : Type 0} (old new : LegacyState I Rented) (jobs : ℕ → Option PipeJob) → new.slots ≡ old.slots → new.given ≡ old.given
     → AreSound FitsPipe ApartPipes old jobs → AreSound FitsPipe ApartPipes new jobs
 kept_sound old new jobs slots given sound = record {
-  all_fit = λ t job is. all_fit (ops_in old) (ops_in new) (ap (λ s. s.values) slots) given job.course.pipe job.cancels job.wait
+  all_fit = λ t job is. all_fit (ops_in old) (ops_in new) (ap (λ s. s.values) slots) given job.course job.cancels job.wait
       (sound.all_fit t job is);
   all_apart = sound.all_apart;
 }

@@ -21,7 +21,8 @@ use Rattle.pipe_job.specs.declared.pipe_job.PipeJob.{PipeJob}
 use Rattle.pipe_job.specs.declared.step.Wait.{Wait}
 use Rattle.pipe_job.specs.declared.step.Wait.TheVariants.{Room, Waiting}
 
-module _ {I : Type 0} (view : I → IoView) (tells reporting memory : Bool) (old new : LegacyState I Rented) (turned : Turned)
+module _ {I : Type 0} (files : I → ℕ → Bool) (view : I
+    → IoView) (tells reporting memory : Bool) (old new : LegacyState I Rented) (turned : Turned)
     (turns : LegacyTurns view tells reporting memory old new turned) where
   -- Those that were to be named before a turn are to be named in it, however it stops.
   asked_first : (stop : Option Stop) → TurnsBy view tells reporting memory (turning_in old old.asked) (turning_in new turns.tasks) stop
@@ -43,29 +44,31 @@ module _ {I : Type 0} (view : I → IoView) (tells reporting memory : Bool) (old
   named_or_later (Some why) names t has = inr (subst (λ ts. Contains ts t) (sym names.1) has)
 
   -- So a job that waits is named, or waits still.
-  named_or_waits : (pipe task : ℕ) (wait : Wait) → WaitsWait old pipe task wait → Contains turned.woken task ⊎ WaitsWait new pipe task wait
+  named_or_waits : (pipe task : ℕ) (wait : Wait) → WaitsWait files memory old pipe task wait → Contains turned.woken task
+      ⊎ WaitsWait files memory new pipe task wait
   named_or_waits pipe task (Room room) waits = absurd waits
   named_or_waits pipe task (Waiting op) (inl listed) =
       elim (turn_names view tells reporting memory old new turned turns pipe op.number task listed.direction listed.waits) [
-        | inl has ↦ elim (named_or_later turned.stop turns.names task has) [ inl woken ↦ inl woken | inr later ↦ inr (inr later) ]
+        | inl has ↦ elim (named_or_later turned.stop turns.names task has) [ inl woken ↦ inl woken | inr later ↦ inr (inr (inl later)) ]
         | inr still ↦ inr (inl (record {
           direction = listed.direction;
           awaits = ap (λ s. slot_awaits (map.get s.values op.key)) turns.slots ∙ listed.awaits;
           waits = still;
         }))
       ]
-  named_or_waits pipe task (Waiting op) (inr asked) =
+  named_or_waits pipe task (Waiting op) (inr (inr unreported)) = inr (inr (inr unreported))
+  named_or_waits pipe task (Waiting op) (inr (inl asked)) =
       elim (named_or_later turned.stop turns.names task (asked_first turned.stop turns.does task asked)) [
         | inl woken ↦ inl woken
-        | inr later ↦ inr (inr later)
+        | inr later ↦ inr (inr (inl later))
       ]
 
   -- Where the executor's turn is to come to all that the driver names, each task that isn't ready waits.
   pub turned_waits : (now : ℕ) (named : List ℕ) (was is : ℕ → Option (Task PipeJob))
-      → ((t : ℕ) → Contains turned.woken t → has_number t named ≡ true) → is ≡ was → AreWaiting WaitsPipe old was
-      → AreWaiting WaitsPipe new (ready_tasks now named is)
+      → ((t : ℕ) → Contains turned.woken t → has_number t named ≡ true) → is ≡ was → AreWaiting (WaitsPipe files memory) old was
+      → AreWaiting (WaitsPipe files memory) new (ready_tasks now named is)
   turned_waits now named was is names same waiting =
-      subst (λ tasks. AreWaiting WaitsPipe new (ready_tasks now named tasks)) (sym same) (λ t job unmarked own.
+      subst (λ tasks. AreWaiting (WaitsPipe files memory) new (ready_tasks now named tasks)) (sym same) (λ t job unmarked own.
       let kept = unmarked_unnamed now named was t job unmarked own in
       elim (named_or_waits job.course.pipe t job.wait (waiting t job kept.0 kept.1.0)) [
         | inl woken ↦ absurd (true≢false (sym (names t woken) ∙ kept.1.1))

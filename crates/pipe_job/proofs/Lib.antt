@@ -1,8 +1,13 @@
 pub mod Awaiting
+pub mod Bytes
 pub mod Calls
 pub mod Frames
 pub mod Going
+pub mod Moved
+pub mod Moving
 pub mod Polling
+pub mod Resting
+pub mod Returned
 pub mod Staying
 pub mod Stepping
 pub mod Submitting

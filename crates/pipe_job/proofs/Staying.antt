@@ -43,28 +43,31 @@ use Rattle.ready_driver.proofs.Others.{cancels-keep, entry-registered, entry-unw
 use Rattle.ready_driver.proofs.Recorded.{none-meet}
 use Rattle.op_driver.specs.Legacy.{LegacyCanceled, LegacyCancels}
 use Rattle.pipe_job.specs.Awaits.{AwaitsJob, AwaitsPipe, IsListed, KeepsWaiting, WaitsPipe, WaitsWait}
+use Rattle.pipe_job.specs.Course.{Coursed}
 use Rattle.pipe_job.specs.PipeJob.{ApartPipes, AsksPipe, AsksWait, FitsPipe}
-use Rattle.pipe_job.specs.Waits.{ApartWaits, FitsWait, MovesIf}
+use Rattle.pipe_job.specs.Waits.{ApartWaits, FitsWait, NextIf}
 use Rattle.pipe_job.specs.declared.pipe_job.PipeJob.{PipeJob}
 use Rattle.pipe_job.specs.declared.step.Wait.{Wait}
 use Rattle.pipe_job.specs.declared.step.Wait.TheVariants.{Room, Waiting}
 use Rattle.pipe_job.proofs.Frames.{canceled-other, dropped_apart, other_key, polled_apart, submitted_key}
 use Rattle.pipe_job.proofs.Submitting.{moves_named}
 
--- An operation that moves bytes of a pipe names it.
-pub names_pipe : (pipe : ℕ) (slot : Option (Slot Rented)) → MovesIf pipe (request_in slot) → has_number pipe (named_in slot) ≡ true
-names_pipe pipe None moves = absurd moves
-names_pipe pipe (Some slot) moves =
-    ap (has_number pipe) (moves_named pipe slot.request moves) ∙ ap (λ b. b || false) (eq-eqb pipe pipe refl)
+-- A job's operation names its pipe.
+pub names_pipe : (course : Coursed) (slot : Option (Slot Rented)) → NextIf course (request_in slot)
+    → has_number course.pipe (named_in slot) ≡ true
+names_pipe course None moves = absurd moves
+names_pipe course (Some slot) moves =
+    ap (has_number course.pipe) (moves_named course slot.request moves) ∙ ap (λ b. b || false) (eq-eqb course.pipe course.pipe refl)
 
 -- Somebody holds each handle that an operation of the driver names.
 abbrev pub HoldsNamed : {I : Type 0} → LegacyState I Rented → Type 0
 HoldsNamed driver = (key h : ℕ) → has_number h (named_in (map.get driver.slots.values key)) ≡ true → is_known driver.handling.table h ≡ true
 
 -- So somebody holds the pipe of each job that waits for its operation.
-pub known_pipe : {I : Type 0} (driver : LegacyState I Rented) → HoldsNamed driver → (pipe cancels : ℕ) (op : Op)
-    → FitsWait (ops_in driver) pipe cancels (Waiting op) → is_known driver.handling.table pipe ≡ true
-known_pipe driver held pipe cancels op fits = held op.key pipe (names_pipe pipe (map.get driver.slots.values op.key) fits.2.moves)
+pub known_pipe : {I : Type 0} (driver : LegacyState I Rented) → HoldsNamed driver → (course : Coursed) (cancels : ℕ) (op : Op)
+    → FitsWait (ops_in driver) course cancels (Waiting op) → is_known driver.handling.table course.pipe ≡ true
+known_pipe driver held course cancels op fits =
+    held op.key course.pipe (names_pipe course (map.get driver.slots.values op.key) fits.2.moves)
 
 -- A call leaves another operation its slot, and the entry that it has in the list of a handle.
 pub record KeepsPlace {I : Type 0} (old new : LegacyState I Rented) (h : ℕ) (op : Op) : Type 0 where
@@ -73,32 +76,35 @@ pub record KeepsPlace {I : Type 0} (old new : LegacyState I Rented) (h : ℕ) (o
       → HasEntry new.handling.records h (number_of op) entry
 
 -- A call leaves jobs waiting that leaves their operations their places, brings no bit, and leaves whom the next turn is to name.
-stays_by : {I : Type 0} (old new : LegacyState I Rented) (wait : Wait)
-    → ((pipe cancels : ℕ) (other : Op) → FitsWait (ops_in old) pipe cancels (Waiting other) → ApartWaits wait (Waiting other)
-    → KeepsPlace old new pipe other)
+stays_by : {I : Type 0} (files : I → ℕ → Bool) (memory : Bool) (old new : LegacyState I Rented) (wait : Wait)
+    → ((course : Coursed) (cancels : ℕ) (other : Op) → FitsWait (ops_in old) course cancels (Waiting other)
+    → ApartWaits wait (Waiting other)
+    → KeepsPlace old new course.pipe other)
     → ((h : ℕ) (dir : Direction) → MeetsNone old.handling.records h dir → MeetsNone new.handling.records h dir)
     → ((t : ℕ) → Contains old.asked t → Contains new.asked t)
-    → KeepsWaiting old new wait
-stays_by old new wait places unmet asked = record { keep = by }
+    → KeepsWaiting files memory old new wait
+stays_by files memory old new wait places unmet asked = record { keep = by }
   where
-    by : (pipe cancels task : ℕ) (other : Wait) → FitsWait (ops_in old) pipe cancels other → ApartWaits wait other
-        → WaitsWait old pipe task other → WaitsWait new pipe task other
-    by pipe cancels task (Room room) fits apart waits = absurd waits
-    by pipe cancels task (Waiting other) fits apart (inl listed) =
-        let place = places pipe cancels other fits apart in
+    by : (course : Coursed) (cancels task : ℕ) (other : Wait) → FitsWait (ops_in old) course cancels other → ApartWaits wait other
+        → WaitsWait files memory old course.pipe task other → WaitsWait files memory new course.pipe task other
+    by course cancels task (Room room) fits apart waits = absurd waits
+    by course cancels task (Waiting other) fits apart (inl listed) =
+        let place = places course cancels other fits apart in
         inl (record {
           direction = listed.direction;
           awaits = ap slot_awaits place.slot ∙ listed.awaits;
           waits = record {
             entry = place.entry _ listed.waits.entry;
-            unmet = unmet pipe listed.direction listed.waits.unmet;
+            unmet = unmet course.pipe listed.direction listed.waits.unmet;
           };
         })
-    by pipe cancels task (Waiting other) fits apart (inr has) = inr (asked task has)
+    by course cancels task (Waiting other) fits apart (inr (inl has)) = inr (inl (asked task has))
+    by course cancels task (Waiting other) fits apart (inr (inr unreported)) = inr (inr unreported)
 
 -- No call leaves all.
-pub same_stays : {I : Type 0} (driver : LegacyState I Rented) (wait : Wait) → KeepsWaiting driver driver wait
-same_stays driver wait = record { keep = λ pipe cancels task other fits apart waits. waits }
+pub same_stays : {I : Type 0} (files : I → ℕ → Bool) (memory : Bool) (driver : LegacyState I Rented) (wait : Wait)
+    → KeepsWaiting files memory driver driver wait
+same_stays files memory driver wait = record { keep = λ course cancels task other fits apart waits. waits }
 
 -- A poll leaves each other slot.
 slot_others : (old new : Ops Rented) (op : Op) (result : Result (PollOp Rented) (OutOfMemory × Op)) → PollsSlotFor old new op result
@@ -108,53 +114,57 @@ slot_others old new op (Ok (Ready done)) slots = slots.others
 slot_others old new op (Err error) slots = slots.others
 
 -- A poll leaves the others waiting.
-pub polled_stays : {I : Type 0} (old new : LegacyState I Rented) (op : Op) (result : Result (PollOp Rented) (OutOfMemory × Op))
+pub polled_stays : {I : Type 0} (files : I → ℕ
+    → Bool) (memory : Bool) (old new : LegacyState I Rented) (op : Op) (result : Result (PollOp Rented) (OutOfMemory × Op))
     → PollsSlotFor (ops_in old) (ops_in new) op result → new.given ≡ old.given → Holds (ops_in old) op
-    → KeepsOthers old.handling new.handling (number_of op) → new.asked ≡ old.asked → HoldsNamed new → KeepsWaiting old new (Waiting op)
-polled_stays old new op result slots given holds others asked held =
+    → KeepsOthers old.handling new.handling (number_of op) → new.asked ≡ old.asked → HoldsNamed new
+    → KeepsWaiting files memory old new (Waiting op)
+polled_stays files memory old new op result slots given holds others asked held =
     let fit = polled_apart (ops_in old) (ops_in new) op result slots given holds in
-    stays_by old new (Waiting op) (λ pipe cancels other fits apart. record {
+    stays_by files memory old new (Waiting op) (λ course cancels other fits apart. record {
       slot = slot_others (ops_in old) (ops_in new) op result slots other.key (other_key (ops_in old) op other holds fits.0 apart);
-      entry = λ entry has. others.entries pipe (number_of other) entry (λ same. apart (sym same))
-          (known_pipe new held pipe cancels other (fit.keep pipe cancels (Waiting other) fits apart)) has;
+      entry = λ entry has. others.entries course.pipe (number_of other) entry (λ same. apart (sym same))
+          (known_pipe new held course cancels other (fit.keep course cancels (Waiting other) fits apart)) has;
     }) others.unmet (λ t has. subst (λ ts. Contains ts t) (sym asked) has)
 
-module _ {I : Type 0} (view : I → IoView) (tells memory : Bool) where
+module _ {I : Type 0} (files : I → ℕ → Bool) (view : I → IoView) (tells memory : Bool) where
   -- So does a submission,
   pub submitted_stays : (old new : LegacyState I Rented) (request : Request Rented Parts) (op : Op) (wait : Wait)
-      → AddsToken (ops_in old) (ops_in new) op → JoinsOp view tells memory old new request None op → KeepsWaiting old new wait
-  submitted_stays old new request op wait adds joins = stays_by old new wait (λ pipe cancels other fits apart. record {
+      → AddsToken (ops_in old) (ops_in new) op → JoinsOp view tells memory old new request None op → KeepsWaiting files memory old new wait
+  submitted_stays old new request op wait adds joins = stays_by files memory old new wait (λ course cancels other fits apart. record {
     slot = ap (λ s. map.get s other.key) joins.slots ∙ put-other old.slots.values op.key (new_slot (ops_in old) request) other.key
         (submitted_key (ops_in old) (ops_in new) op other adds fits.0 fits.1);
-    entry = λ entry has. subst (λ (s : Handling _). HasEntry s.records pipe (number_of other) entry) (sym joins.handling)
-        (subst (λ k. HasEntry k pipe (number_of other) entry) (sym joins.ready.records)
-        (entry-registered (named request) old.handling.records pipe (number_of other) entry has));
+    entry = λ entry has. subst (λ (s : Handling _). HasEntry s.records course.pipe (number_of other) entry) (sym joins.handling)
+        (subst (λ k. HasEntry k course.pipe (number_of other) entry) (sym joins.ready.records)
+        (entry-registered (named request) old.handling.records course.pipe (number_of other) entry has));
   }) (submits-keep view tells memory old new request None (submission.Op op) 0 joins).unmet
       (λ t has. subst (λ ts. Contains ts t) (sym joins.asked) has)
 
   -- and one that is refused.
   pub refused_stays : (old new : LegacyState I Rented) (request : Request Rented Parts) (refused : SubmitError Rented) (wait : Wait)
-      → SubmitRefused view tells memory request old new refused → KeepsWaiting old new wait
-  refused_stays old new request refused wait is = stays_by old new wait (λ pipe cancels other fits apart. record {
+      → SubmitRefused view tells memory request old new refused → KeepsWaiting files memory old new wait
+  refused_stays old new request refused wait is = stays_by files memory old new wait (λ course cancels other fits apart. record {
     slot = ap (λ s. map.get s other.key) is.same.slots;
-    entry = λ entry has. subst (λ k. HasEntry k pipe (number_of other) entry) (sym is.handles.made.records)
-        (entry-registered is.handles.front old.handling.records pipe (number_of other) entry has);
+    entry = λ entry has. subst (λ k. HasEntry k course.pipe (number_of other) entry) (sym is.handles.made.records)
+        (entry-registered is.handles.front old.handling.records course.pipe (number_of other) entry has);
   }) (refused-keep view tells memory request old new refused 0 is).unmet (λ t has. subst (λ ts. Contains ts t) (sym is.same.asked) has)
 
 -- So does a cancel.
-pub canceled_stays : {I : Type 0} (old new : LegacyState I Rented) (op : Op) (result : Result Unit OutOfMemory)
-    → LegacyCancels old new op result → Holds (ops_in old) op → KeepsWaiting old new (Waiting op)
-canceled_stays old new op (Ok done) does holds =
+pub canceled_stays : {I : Type 0} (files : I → ℕ
+    → Bool) (memory : Bool) (old new : LegacyState I Rented) (op : Op) (result : Result Unit OutOfMemory)
+    → LegacyCancels old new op result → Holds (ops_in old) op → KeepsWaiting files memory old new (Waiting op)
+canceled_stays files memory old new op (Ok done) does holds =
     let slot = map.get old.slots.values op.key in
-    stays_by old new (Waiting op) (λ pipe cancels other fits apart. record {
+    stays_by files memory old new (Waiting op) (λ course cancels other fits apart. record {
       slot = ap (λ s. map.get s other.key) does.slots
           ∙ canceled-other old.slots.values op.key slot other.key (other_key (ops_in old) op other holds fits.0 apart);
-      entry = λ entry has. subst (λ (s : Handling _). HasEntry s.records pipe (number_of other) entry) (sym does.waits)
-          (entry-unwaiting old.handling.records (number_of op) (slot_awaits slot) pipe (number_of other) entry
+      entry = λ entry has. subst (λ (s : Handling _). HasEntry s.records course.pipe (number_of other) entry) (sym does.waits)
+          (entry-unwaiting old.handling.records (number_of op) (slot_awaits slot) course.pipe (number_of other) entry
           (λ same. apart (sym same)) has);
     }) (cancels-keep old.handling new.handling (number_of op) (slot_awaits slot) does.waits).unmet
     (λ t has. subst (λ ts. Contains ts t) (sym does.asked) (Contains-append_left old.asked _ t has))
-canceled_stays old new op (Err error) does holds = subst (λ d. KeepsWaiting old d (Waiting op)) (sym does) (same_stays old (Waiting op))
+canceled_stays files memory old new op (Err error) does holds = subst (λ d. KeepsWaiting files memory old d (Waiting op)) (sym does)
+    (same_stays files memory old (Waiting op))
 
 -- The record of a handle is gone with those of some, or it stays.
 record_left : (handles : List ℕ) (records : Kept) (h : ℕ)
@@ -186,42 +196,47 @@ unmet_left handles records h dir none = elim (record_left handles records h) [
 ]
 
 -- A drop leaves the others waiting.
-module _ {I : Type 0} (view : I → IoView) (tells memory : Bool) (old new : LegacyState I Rented) (op : Op)
+module _ {I : Type 0} (files : I → ℕ → Bool) (view : I → IoView) (tells memory : Bool) (old new : LegacyState I Rented) (op : Op)
     (lets : LetsGo view tells memory (unwaited old.handling (number_of op) (map.get old.slots.values op.key))
     (without_ops old.handling.table (named_in (map.get old.slots.values op.key)))
     (unheld_by old.handling.table (named_in (map.get old.slots.values op.key))) new.handling) where
   pub dropped_stays : new.slots.values ≡ map.remove old.slots.values op.key → new.given ≡ old.given → new.asked ≡ old.asked
-      → Holds (ops_in old) op → AreRecorded new.handling.table new.handling.records → HoldsNamed new → KeepsWaiting old new (Waiting op)
+      → Holds (ops_in old) op → AreRecorded new.handling.table new.handling.records → HoldsNamed new
+      → KeepsWaiting files memory old new (Waiting op)
   dropped_stays slots given asked holds recorded held =
       let slot = map.get old.slots.values op.key in
       let gone = unheld_by old.handling.table (named_in slot) in
       let mid = unwaiting old.handling.records (number_of op) (slot_awaits slot) in
       let fit = dropped_apart (ops_in old) (ops_in new) op slots given holds in
-      stays_by old new (Waiting op) (λ pipe cancels other fits apart. record {
+      stays_by files memory old new (Waiting op) (λ course cancels other fits apart. record {
         slot = ap (λ s. map.get s other.key) slots
             ∙ gone-other old.slots.values op.key other.key (other_key (ops_in old) op other holds fits.0 apart);
-        entry = λ entry has. subst (λ k. HasEntry k pipe (number_of other) entry) (sym lets.records)
-            (entry_left gone mid pipe (number_of other) entry
-            (ap (λ k. is_some (record_at k pipe)) (sym lets.records) ∙ recorded pipe
-            ∙ known_pipe new held pipe cancels other (fit.keep pipe cancels (Waiting other) fits apart))
-            (entry-unwaiting old.handling.records (number_of op) (slot_awaits slot) pipe (number_of other) entry
+        entry = λ entry has. subst (λ k. HasEntry k course.pipe (number_of other) entry) (sym lets.records)
+            (entry_left gone mid course.pipe (number_of other) entry
+            (ap (λ k. is_some (record_at k course.pipe)) (sym lets.records) ∙ recorded course.pipe
+            ∙ known_pipe new held course cancels other (fit.keep course cancels (Waiting other) fits apart))
+            (entry-unwaiting old.handling.records (number_of op) (slot_awaits slot) course.pipe (number_of other) entry
             (λ same. apart (sym same)) has));
       }) (λ h dir none. subst (λ k. MeetsNone k h dir) (sym lets.records)
       (unmet_left gone mid h dir (unmet-unwaiting old.handling.records (number_of op) (slot_awaits slot) h dir none)))
       (λ t has. subst (λ ts. Contains ts t) (sym asked) has)
 
 -- The cancel of a job leaves the others waiting.
-asks_stay : {I : Type 0} (old new : LegacyState I Rented) (pipe cancels : ℕ) (wait : Wait) (result : Result Unit OutOfMemory)
-    → AsksWait old new wait result → FitsWait (ops_in old) pipe cancels wait → KeepsWaiting old new wait
-asks_stay old new pipe cancels (Room room) result asks fits =
-    subst (λ d. KeepsWaiting old d (Room room)) (sym asks.0) (same_stays old (Room room))
-asks_stay old new pipe cancels (Waiting op) result asks fits = canceled_stays old new op result asks fits.0
+asks_stay : {I : Type 0} (files : I → ℕ → Bool) (memory : Bool) (old new : LegacyState I Rented) (course : Coursed) (cancels : ℕ)
+    (wait : Wait) (result : Result Unit OutOfMemory)
+    → AsksWait old new wait result → FitsWait (ops_in old) course cancels wait → KeepsWaiting files memory old new wait
+asks_stay files memory old new course cancels (Room room) result asks fits =
+    subst (λ d. KeepsWaiting files memory old d (Room room)) (sym asks.0) (same_stays files memory old (Room room))
+asks_stay files memory old new course cancels (Waiting op) result asks fits = canceled_stays files memory old new op result asks fits.0
 
-pub asked_stays : {I : Type 0} (old new : LegacyState I Rented) (job : PipeJob) (result : Result Unit OutOfMemory)
+pub asked_stays : {I : Type 0} (files : I → ℕ
+    → Bool) (memory : Bool) (old new : LegacyState I Rented) (job : PipeJob) (result : Result Unit OutOfMemory)
     → AsksPipe old new job result → (s : ℕ) × FitsPipe old s job
-    → (other : PipeJob) (s : ℕ) → FitsPipe old s other → ApartPipes job other → WaitsPipe old s other → WaitsPipe new s other
-asked_stays old new job result asks fits other s fit apart waits =
-    (asks_stay old new job.course.pipe job.cancels job.wait result asks fits.1).keep other.course.pipe other.cancels s other.wait fit apart
+    → (other : PipeJob) (s : ℕ) → FitsPipe old s other → ApartPipes job other → WaitsPipe files memory old s other
+    → WaitsPipe files memory new s other
+asked_stays files memory old new job result asks fits other s fit apart waits =
+    (asks_stay files memory old new job.course job.cancels job.wait result asks fits.1).keep other.course other.cancels s other.wait fit
+    apart
     waits
 
 -- The next turn names the task of an operation that is listed, once its cancel was asked for.
@@ -236,29 +251,38 @@ cancel_names old new h task op does listed =
     (subst (λ t. Contains (option_to_list t) task) (sym names) (0, omega arith, refl)))
 
 -- So a job whose cancel was asked for waits still, if it waited.
-asks_wait : {I : Type 0} (old new : LegacyState I Rented) (pipe task : ℕ) (wait : Wait) (result : Result Unit OutOfMemory)
-    → AsksWait old new wait result → WaitsWait old pipe task wait → WaitsWait new pipe task wait
-asks_wait old new pipe task (Room room) result asks waits = absurd waits
-asks_wait old new pipe task (Waiting op) (Ok done) asks (inl listed) = inr (cancel_names old new pipe task op asks listed)
-asks_wait old new pipe task (Waiting op) (Ok done) asks (inr has) =
-    inr (subst (λ ts. Contains ts task) (sym asks.asked) (Contains-append_left old.asked _ task has))
-asks_wait old new pipe task (Waiting op) (Err error) asks waits = subst (λ d. WaitsWait d pipe task (Waiting op)) (sym asks) waits
+asks_wait : {I : Type 0} (files : I → ℕ → Bool) (memory : Bool) (old new : LegacyState I Rented) (pipe task : ℕ) (wait : Wait)
+    (result : Result Unit OutOfMemory)
+    → AsksWait old new wait result → WaitsWait files memory old pipe task wait → WaitsWait files memory new pipe task wait
+asks_wait files memory old new pipe task (Room room) result asks waits = absurd waits
+asks_wait files memory old new pipe task (Waiting op) (Ok done) asks (inl listed) = inr (inl
+    (cancel_names old new pipe task op asks listed))
+asks_wait files memory old new pipe task (Waiting op) (Ok done) asks (inr (inl has)) =
+    inr (inl (subst (λ ts. Contains ts task) (sym asks.asked) (Contains-append_left old.asked _ task has)))
+asks_wait files memory old new pipe task (Waiting op) (Ok done) asks (inr (inr unreported)) = inr (inr unreported)
+asks_wait files memory old new pipe task (Waiting op) (Err error) asks waits = subst (λ d. WaitsWait files memory d pipe task
+    (Waiting op)) (sym asks) waits
 
-pub asked_waits : {I : Type 0} (old new : LegacyState I Rented) (job next : PipeJob) (result : Result Unit OutOfMemory)
-    → AsksPipe old new job result → next.wait ≡ job.wait → next.course.pipe ≡ job.course.pipe → (s : ℕ) → WaitsPipe old s job
-    → WaitsPipe new s next
-asked_waits old new job next result asks wait pipe s waits =
-    subst (λ p. WaitsWait new p s next.wait) (sym pipe) (subst (WaitsWait new job.course.pipe s) (sym wait)
-    (asks_wait old new job.course.pipe s job.wait result asks waits))
+pub asked_waits : {I : Type 0} (files : I → ℕ
+    → Bool) (memory : Bool) (old new : LegacyState I Rented) (job next : PipeJob) (result : Result Unit OutOfMemory)
+    → AsksPipe old new job result → next.wait ≡ job.wait → next.course.pipe ≡ job.course.pipe → (s : ℕ) → WaitsPipe files memory old s job
+    → WaitsPipe files memory new s next
+asked_waits files memory old new job next result asks wait pipe s waits =
+    subst (λ p. WaitsWait files memory new p s next.wait) (sym pipe) (subst (WaitsWait files memory new job.course.pipe s) (sym wait)
+    (asks_wait files memory old new job.course.pipe s job.wait result asks waits))
 
 -- A job that is pending waits.
-listed_waits : {I : Type 0} (driver : LegacyState I Rented) (pipe task : ℕ) (wait : Wait) → AwaitsPipe driver pipe task wait
-    → WaitsWait driver pipe task wait
-listed_waits driver pipe task (Room room) awaits = awaits
-listed_waits driver pipe task (Waiting op) awaits = inl awaits
+listed_waits : {I : Type 0} (files : I → ℕ → Bool) (memory : Bool) (driver : LegacyState I Rented) (pipe task : ℕ) (wait : Wait)
+    → AwaitsPipe files memory driver pipe task wait
+    → WaitsWait files memory driver pipe task wait
+listed_waits files memory driver pipe task (Room room) awaits = awaits
+listed_waits files memory driver pipe task (Waiting op) (inl listed) = inl listed
+listed_waits files memory driver pipe task (Waiting op) (inr unreported) = inr (inr unreported)
 
-pub left_waits : {I O : Type 0} (driver : LegacyState I Rented) (task : ℕ) (result : JobStep PipeJob O) → AwaitsJob driver task result
-    → IfPending result (WaitsPipe driver task)
-left_waits driver task (job.Done out) awaits = tt
-left_waits driver task (job.Pending next) awaits = listed_waits driver next.course.pipe task next.wait awaits
-left_waits driver task (job.OutOfMemory next) awaits = tt
+pub left_waits : {I O : Type 0} (files : I → ℕ
+    → Bool) (memory : Bool) (driver : LegacyState I Rented) (task : ℕ) (result : JobStep PipeJob O)
+    → AwaitsJob files memory driver task result
+    → IfPending result (WaitsPipe files memory driver task)
+left_waits files memory driver task (job.Done out) awaits = tt
+left_waits files memory driver task (job.Pending next) awaits = listed_waits files memory driver next.course.pipe task next.wait awaits
+left_waits files memory driver task (job.OutOfMemory next) awaits = tt

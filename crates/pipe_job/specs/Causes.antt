@@ -1,5 +1,5 @@
 -- Why a poll of a job ends with a fault, and when it waits. Cited by `step` and `PipeJob`.
-use Rattle.std.specs.Prelude.{ℕ, ◌≡◌, ◌≢◌, ◌≤◌, ◌⊎◌, Bool, true, false, [], ◌∷◌, IsTrue, Result, Ok, Err}
+use Rattle.std.specs.Prelude.{ℕ, ◌≡◌, ◌≢◌, ◌≤◌, ◌⊎◌, Bool, true, false, List, [], ◌∷◌, IsTrue, Result, Ok, Err, slice_get}
 use Rattle.std.specs.FinMap as map
 use Rattle.rent_buf.specs.Counts.{Rose}
 use Rattle.rent_buf.specs.Rent.{Rented}
@@ -8,6 +8,9 @@ use Rattle.rent_buf.specs.declared.fault.IoFault.TheVariants.{Os, UnexpectedEof,
 use Rattle.rent_buf.specs.declared.fault.IoFault.TheVariants.{OutOfMemory as NoMemory}
 use Rattle.op_slots.specs.declared.slab.TheConstants.{MAX_LIVE}
 use Rattle.ring_core.specs.declared.request.TheConstants.{CANCELED}
+use Rattle.ring_core.specs.declared.world.HandleState.{HandleState}
+use Rattle.ring_core.specs.Lists.{passes}
+use Rattle.ring_core.specs.Outcome.{is_spent}
 use Rattle.driver_core.specs.declared.operations.TheConstants.{MOST_GIVEN}
 use Rattle.ready_driver.specs.Awaits.{IsSlotUnmet}
 use Rattle.ready_driver.specs.Io.{IoView}
@@ -22,34 +25,29 @@ use Rattle.pipe_job.specs.declared.step.Step.TheVariants.{Again, Pending, OutOfM
 abbrev pub TakesNone : {I : Type 0} → LegacyState I Rented → Type 0
 TakesNone driver = (live_slots driver ≡ MAX_LIVE) ⊎ (MOST_GIVEN ≤ driver.given)
 
--- A handle was a file when a call on it would have blocked, so that the count of these rose. What the object shows of its handles stayed.
-pub record BlocksFile {I : Type 0} (files : I → ℕ → Bool) (view : I → IoView) (tells : Bool) (old new : LegacyState I Rented) (h : ℕ)
-    : Type 0 where
-  pub before : I
-  pub is : files before h ≡ true
-  pub world : IsTrue tells → (view new.handling.io).world ≡ (view before).world
-  pub blocks : Rose (view old.handling.io).blocks (view new.handling.io).blocks
+-- No more bytes come from a handle: none waits on it, and its end is marked.
+abbrev pub HasEnded : List HandleState → ℕ → Type 0
+HasEnded world h = passes is_spent (slice_get world h) ≡ true
 
--- Of a poll of a job over a pipe, whose cancel was asked for so often.
-module _ {I : Type 0} (files : I → ℕ → Bool) (view : I → IoView) (tells : Bool) (pipe cancels : ℕ) (old new : LegacyState I Rented) where
+-- Of a poll of a job over a pipe, whose cancel was asked for so often; whether the bytes that wait on its pipe are its own.
+module _ {I : Type 0} (view : I → IoView) (tells : Bool) (pipe cancels : ℕ) (own : Type 0) (old new : LegacyState I Rented) where
   -- The causes of the job's error: a call ended with an error, so that the count of these rose; or the job's cancel was asked for; or the
-  -- driver takes no further operation; or the user doesn't hold the pipe; or the pipe is a file, of which nothing is reported, and a call
-  -- on it would have blocked.
+  -- driver takes no further operation; or the user doesn't hold the pipe.
   abbrev pub OsFor : ℕ → Type 0
   OsFor e =
       Rose (view old.handling.io).fails (view new.handling.io).fails
       ⊎ (((e ≡ CANCELED) × (cancels ≢ 0))
-      ⊎ (((e ≡ AGAIN) × TakesNone new)
-      ⊎ (((e ≡ NOT_HELD) × (holds_all new.handling.table (pipe ∷ []) ≡ false))
-      ⊎ ((e ≡ AGAIN) × BlocksFile files view tells old new pipe))))
+      ⊎ (((e ≡ AGAIN) × TakesNone new) ⊎ ((e ≡ NOT_HELD) × (holds_all new.handling.table (pipe ∷ []) ≡ false))))
 
-  -- The causes of a fault. A refused submission is a `ReadFault`: the object failed, so that its count of faults rose.
+  -- The causes of a fault. A refused submission is a `ReadFault`: the object failed, so that its count of faults rose. Where the object
+  -- shows its handles, a receive of nothing comes only where the pipe has ended, a send of nothing never, and other bytes only where those
+  -- that waited on the pipe weren't the job's own.
   abbrev pub PipeFaultFor : IoFault → Type 0
   PipeFaultFor (Os e) = OsFor e
   PipeFaultFor ReadFault = Rose (view old.handling.io).faults (view new.handling.io).faults
-  PipeFaultFor UnexpectedEof = Unit {0}
-  PipeFaultFor WriteZero = Unit {0}
-  PipeFaultFor InvalidData = Unit {0}
+  PipeFaultFor UnexpectedEof = IsTrue tells → HasEnded (view new.handling.io).world pipe
+  PipeFaultFor WriteZero = IsTrue tells → ⊥
+  PipeFaultFor InvalidData = IsTrue tells → own → ⊥
   PipeFaultFor WriteFault = ⊥
   PipeFaultFor NoMemory = ⊥
 

@@ -1,5 +1,5 @@
 -- A job over a pipe, and the driver that it fits. Cited by `PipeJob`.
-use Rattle.std.specs.Prelude.{ℕ, ◌≡◌, Bool, List, Result, Ok, Err, IsOk}
+use Rattle.std.specs.Prelude.{ℕ, ◌≡◌, Bool, List, ◌++◌, Result, Ok, Err, IsOk}
 use Rattle.rent_buf.specs.Rent.{Rented}
 use Rattle.rent_buf.specs.declared.fault.IoFault.{IoFault}
 use Rattle.rent_buf.specs.declared.fault.OutOfMemory.{OutOfMemory}
@@ -10,6 +10,9 @@ use Rattle.ready_driver.specs.Io.{IoView}
 use Rattle.ready_driver.specs.LegacyState.{LegacyState, ops_in}
 use Rattle.op_driver.specs.Legacy.{LegacyCancels}
 use Rattle.pipe_job.specs.Causes.{PipeFaultFor, WaitsFor}
+use Rattle.pipe_job.specs.Course.{received_in, sent_in}
+use Rattle.pipe_job.specs.Moves.{HasOwn, MovesBytes}
+use Rattle.pipe_job.specs.Rest.{IsOwnOrNew, LeavesRest}
 use Rattle.pipe_job.specs.Waits.{ApartWaits, FitsWait, HasNone, IsGoneWait}
 use Rattle.pipe_job.specs.declared.pipe_job.PipeJob.{PipeJob}
 use Rattle.pipe_job.specs.declared.step.Wait.{Wait}
@@ -27,6 +30,14 @@ cancels_of job = job.cancels
 abbrev pub aim_of : PipeJob → List ℕ
 aim_of job = job.course.bytes
 
+-- The bytes that it has sent.
+abbrev pub sent_of : PipeJob → List ℕ
+sent_of job = sent_in job.course
+
+-- Those that it has received.
+abbrev pub received_of : PipeJob → List ℕ
+received_of job = received_in job.course
+
 -- It received the bytes that it is for, or failed.
 abbrev pub IsAim : List ℕ → Result (List ℕ) IoFault → Type 0
 IsAim aim (Ok bytes) = bytes ≡ aim
@@ -34,7 +45,7 @@ IsAim aim (Err fault) = Unit {0}
 
 -- The driver holds the operation that a job waits for.
 abbrev pub HoldsPipe : {I : Type 0} → LegacyState I Rented → PipeJob → Type 0
-HoldsPipe driver job = FitsWait (ops_in driver) job.course.pipe job.cancels job.wait
+HoldsPipe driver job = FitsWait (ops_in driver) job.course job.cancels job.wait
 
 -- So it fits the driver as the task of each number.
 abbrev pub FitsPipe : {I : Type 0} → LegacyState I Rented → ℕ → PipeJob → Type 0
@@ -63,15 +74,37 @@ AsksPipe old new job result = AsksWait old new job.wait result
 
 -- A job fits every driver.
 abbrev pub FitsEach : PipeJob → Type 0
-FitsEach job = (ops : Ops Rented) → FitsWait ops job.course.pipe job.cancels job.wait
+FitsEach job = (ops : Ops Rented) → FitsWait ops job.course job.cancels job.wait
+
+-- A call of a job leaves the rest of its driver: what the user holds, and the operations of others.
+abbrev pub LeavesPipe : {I : Type 0} → LegacyState I Rented → LegacyState I Rented → PipeJob → Type 0
+LeavesPipe old new job = LeavesRest old new job.wait
+
+-- The operation that a job waits for behind a call it waited for before, or it was submitted in the call, in which so many were submitted
+-- before.
+abbrev pub IsNewPipe : ℕ → PipeJob → PipeJob → Type 0
+IsNewPipe given job next = IsOwnOrNew given job.wait next.wait
 
 -- The causes of the fault that a poll of a job ends with, if it does.
-abbrev pub EndsJob : {I : Type 0} → (I → ℕ → Bool) → (I → IoView) → Bool → LegacyState I Rented → LegacyState I Rented → PipeJob
+abbrev pub EndsJob : {I : Type 0} → (I → IoView) → Bool → LegacyState I Rented → LegacyState I Rented → PipeJob
     → JobStep PipeJob (Result (List ℕ) IoFault) → Type 0
-EndsJob files view tells old new was (job.Done (Ok bytes)) = Unit {0}
-EndsJob files view tells old new was (job.Done (Err fault)) = PipeFaultFor files view tells was.course.pipe was.cancels old new fault
-EndsJob files view tells old new was (job.Pending next) = Unit {0}
-EndsJob files view tells old new was (job.OutOfMemory next) = Unit {0}
+EndsJob view tells old new was (job.Done (Ok bytes)) = Unit {0}
+EndsJob view tells old new was (job.Done (Err fault)) =
+    PipeFaultFor view tells was.course.pipe was.cancels (HasOwn (view old.handling.io).world was.course) old new fault
+EndsJob view tells old new was (job.Pending next) = Unit {0}
+EndsJob view tells old new was (job.OutOfMemory next) = Unit {0}
+
+-- What a poll sends and receives joins what the job had sent and received before. With it, one that is done without a fault has sent all
+-- its bytes, and its output is what it has received.
+abbrev pub MovesJob : {I : Type 0} → (I → IoView) → Bool → Bool → LegacyState I Rented → LegacyState I Rented → PipeJob
+    → JobStep PipeJob (Result (List ℕ) IoFault) → Type 0
+MovesJob view tells memory old new was (job.Done (Ok bytes)) = (moves : MovesBytes view tells memory was.course.pipe old new)
+    × (aim_of was ≡ sent_of was ++ moves.sent) × (bytes ≡ received_of was ++ moves.got)
+MovesJob view tells memory old new was (job.Done (Err fault)) = Unit {0}
+MovesJob view tells memory old new was (job.Pending next) = (moves : MovesBytes view tells memory was.course.pipe old new)
+    × (sent_of next ≡ sent_of was ++ moves.sent) × (received_of next ≡ received_of was ++ moves.got)
+MovesJob view tells memory old new was (job.OutOfMemory next) = (moves : MovesBytes view tells memory was.course.pipe old new)
+    × (sent_of next ≡ sent_of was ++ moves.sent) × (received_of next ≡ received_of was ++ moves.got)
 
 -- Why a job is pending behind a poll, if it is.
 abbrev pub WaitsJob : {I : Type 0} → (I → IoView) → LegacyState I Rented → LegacyState I Rented

@@ -1,40 +1,42 @@
 -- What a job waits for, and the driver that holds it. Cited by `step`.
-use Rattle.std.specs.Prelude.{ℕ, suc, ◌≢◌, ◌<◌, ◌+◌, Option, Some, None}
+use Rattle.std.specs.Prelude.{ℕ, suc, ◌≡◌, ◌≢◌, ◌<◌, ◌+◌, Option, Some, None}
 use Rattle.std.specs.FinMap as map
 use Rattle.std.proofs.Common.{sym}
 use Rattle.rent_buf.specs.Parts.{Parts}
 use Rattle.rent_buf.specs.Rent.{Rented, buffer_of_rent}
 use Rattle.ring_core.specs.declared.request.Request.{Request}
+use Rattle.ring_core.specs.declared.request.TheConstants.{CANCELED}
 use Rattle.ring_core.specs.declared.request.Outcome.{Outcome}
+use Rattle.ring_core.specs.declared.request.Outcome.TheVariants.{Fail}
 use Rattle.ring_core.specs.Request.{plain_request}
 use Rattle.driver_core.specs.declared.slot.Slot.{Slot}
 use Rattle.driver_core.specs.Op.{Holds, number_of}
 use Rattle.driver_core.specs.Ops.{Ops}
 use Rattle.ready_driver.specs.Calling.{request_in}
 use Rattle.ready_driver.specs.Named.{IsCompleted}
-use Rattle.pipe_job.specs.Course.{Coursed, MovesOn, left_of}
+use Rattle.pipe_job.specs.Course.{Coursed, IsNext, left_of}
 use Rattle.pipe_job.specs.declared.step.Wait.{Wait}
 use Rattle.pipe_job.specs.declared.step.Wait.TheVariants.{Room, Waiting}
 use Rattle.pipe_job.specs.declared.step.Step.{Step}
 use Rattle.pipe_job.specs.declared.step.Step.TheVariants.{Again, Pending, OutOfMemory, Ended}
 
--- The request that was looked up moves bytes of a pipe.
-abbrev pub MovesIf : ℕ → Option (Request Rented Parts) → Type 0
-MovesIf pipe None = ⊥
-MovesIf pipe (Some request) = MovesOn pipe (plain_request buffer_of_rent request)
+-- The request that was looked up is a job's next one.
+abbrev pub NextIf : Coursed → Option (Request Rented Parts) → Type 0
+NextIf course None = ⊥
+NextIf course (Some request) = IsNext course (plain_request buffer_of_rent request)
 
--- The slot that was looked up is that of a job's operation: it moves bytes of the job's pipe, and is completed only if its cancel was asked
--- for.
-pub record IsOwn (pipe cancels : ℕ) (slot : Option (Slot Rented)) : Type 0 where
-  pub moves : MovesIf pipe (request_in slot)
-  pub asked : (outcome : Outcome) → IsCompleted slot outcome → cancels ≢ 0
+-- The slot that was looked up is that of a job's operation: its request is the job's next one, and it is completed only if its cancel was
+-- asked for, with the error of a cancel.
+pub record IsOwn (course : Coursed) (cancels : ℕ) (slot : Option (Slot Rented)) : Type 0 where
+  pub moves : NextIf course (request_in slot)
+  pub asked : (outcome : Outcome) → IsCompleted slot outcome → (cancels ≢ 0) × (outcome ≡ Fail CANCELED)
 
 -- The driver holds the operation that a job waits for, which is one of those that were submitted, and its slot is that of the job's
 -- operation.
-abbrev pub FitsWait : Ops Rented → ℕ → ℕ → Wait → Type 0
-FitsWait ops pipe cancels (Room room) = Unit {0}
-FitsWait ops pipe cancels (Waiting op) =
-    Holds ops op × (number_of op < ops.given) × IsOwn pipe cancels (map.get ops.slots.values op.key)
+abbrev pub FitsWait : Ops Rented → Coursed → ℕ → Wait → Type 0
+FitsWait ops course cancels (Room room) = Unit {0}
+FitsWait ops course cancels (Waiting op) =
+    Holds ops op × (number_of op < ops.given) × IsOwn course cancels (map.get ops.slots.values op.key)
 
 -- The driver holds the operation that a job waits for.
 abbrev pub HoldsWait : Ops Rented → Wait → Type 0
@@ -59,11 +61,12 @@ HasNone (Waiting op) = ⊥
 
 -- A call keeps what each other job waits for, if it doesn't wait for the same operation as this one.
 pub record KeepsApart (old new : Ops Rented) (wait : Wait) : Type 0 where
-  pub keep : (pipe cancels : ℕ) (other : Wait) → FitsWait old pipe cancels other → ApartWaits wait other → FitsWait new pipe cancels other
+  pub keep : (course : Coursed) (cancels : ℕ) (other : Wait) → FitsWait old course cancels other → ApartWaits wait other
+      → FitsWait new course cancels other
 
 -- What a job waits for next is apart from what each other one waits for, if what it waited for was.
 abbrev pub StaysApart : Ops Rented → Wait → Wait → Type 0
-StaysApart old wait next = (pipe cancels : ℕ) (other : Wait) → FitsWait old pipe cancels other → ApartWaits wait other
+StaysApart old wait next = (course : Coursed) (cancels : ℕ) (other : Wait) → FitsWait old course cancels other → ApartWaits wait other
     → ApartWaits next other
 
 -- A fact of what a job waits for behind a step, if it isn't done.

@@ -1,8 +1,9 @@
 // How far a job came: what it has sent of its bytes, and received.
-ghost use Rattle.std.specs.Prelude.{◌≡◌, ◌<◌, ◌↔◌, length, IsTrue, IfErr, OnOk};
+ghost use Rattle.std.specs.Prelude.{◌≡◌, ◌<◌, ◌≤◌, ◌+◌, ◌++◌, ◌↔◌, length, take, drop, min, IsTrue, IfOk, IfErr, OnOk};
 ghost use Rattle.rent_buf.specs.Rent.{buffer_of_rent};
 ghost use Rattle.ring_core.specs.Request.{plain_request};
-ghost use Rattle.pipe_job.specs.Course.{IsFaultOf, IsOwnFault, IsSameBytes, MovesOn, left_of};
+ghost use Rattle.pipe_job.specs.Course.{BringsOn, FailsBy, IsNext, IsRoom, IsSameBytes, IsWhole, ReceiveFault, SendFault, left_of};
+ghost use Rattle.pipe_job.specs.Course.{received_in};
 
 use driver_core::Done;
 use rent_buf::{ByteList, IoFault, Rent, VecBuf};
@@ -29,7 +30,7 @@ impl Model for Course {
 
     ghost view = { λ c. record { pipe = c.pipe; bytes = c.bytes; sent = c.sent; received = c.received } };
 
-    ghost invariant = { λ c. (c.sent ≤ length c.bytes) × (c.received ≤ length c.bytes) };
+    ghost invariant = { λ c. (c.sent ≤ length c.bytes) × (c.received ≤ c.sent) };
 }
 
 impl Course {
@@ -43,13 +44,6 @@ impl Course {
             sent: 0,
             received: 0,
         }
-    }
-
-    // The number of the pipe.
-    pub(crate) fn pipe(&self) -> u64
-        ensures { result ≡ self.now.pipe }
-    {
-        self.pipe.number()
     }
 
     // All bytes were sent.
@@ -80,7 +74,12 @@ impl Course {
     }
 
     // The bytes that the next operation is to move.
-    fn next(&self) -> &[u8] {
+    fn next(&self) -> &[u8]
+        requires left { IsWhole self.now → ⊥ }
+        ensures some { 1 ≤ length result.now }
+        ensures most { length result.now ≤ MOST_MOVED }
+        ensures sends { self.now.sent < length self.now.bytes → result.now ≡ take MOST_MOVED (drop self.now.sent self.now.bytes) }
+    {
         let begin = if self.is_sent() {
             self.received
         } else {
@@ -93,7 +92,10 @@ impl Course {
 
     // The buffer of the next operation, in memory that is reused: with the bytes that are sent, or with room for those that are received.
     // The memory comes back if more of it is wanted and it ran out.
-    pub(crate) fn buffer(&self, room: Vec<u8>) -> Result<Rent, Vec<u8>> {
+    pub(crate) fn buffer(&self, room: Vec<u8>) -> Result<Rent, Vec<u8>>
+        requires left { IsWhole self.now → ⊥ }
+        ensures room { IfOk result (IsRoom self.now) }
+    {
         let mut room = room;
         room.clear();
         let next = self.next();
@@ -108,7 +110,8 @@ impl Course {
 
     // The request of the next operation: a send until all bytes are sent, and then a receive.
     pub(crate) fn request(&self, buf: Rent) -> Request<Rent, VecBuf>
-        ensures { MovesOn self.now.pipe (plain_request buffer_of_rent result) }
+        requires room { IsRoom self.now buf }
+        ensures { IsNext self.now (plain_request buffer_of_rent result) }
     {
         let fd = self.pipe;
         if self.is_sent() {
@@ -122,7 +125,8 @@ impl Course {
     pub(crate) fn take_in(&mut self, done: Done<Rent>) -> Result<Vec<u8>, IoFault>
         ensures same { IsSameBytes self.old self.new }
         ensures less { OnOk result (left_of self.new < left_of self.old) }
-        ensures fault { IfErr result (IsFaultOf done.outcome) }
+        ensures brings { OnOk result (BringsOn self.old self.new done.outcome done.request) }
+        ensures fault { IfErr result (FailsBy self.old done.outcome done.request) }
     {
         let Done { outcome, request } = done;
         match outcome {
@@ -146,7 +150,9 @@ impl Course {
     fn send(&mut self, count: usize) -> Result<(), IoFault>
         ensures same { IsSameBytes self.old self.new }
         ensures less { OnOk result (left_of self.new < left_of self.old) }
-        ensures fault { IfErr result IsOwnFault }
+        ensures ok { OnOk result ((self.old.sent + count ≤ length self.old.bytes) × (self.new.sent ≡ self.old.sent + count)
+            × (self.new.received ≡ self.old.received)) }
+        ensures fault { IfErr result (SendFault self.old count) }
     {
         if count == 0 {
             return Err(IoFault::WriteZero);
@@ -158,17 +164,18 @@ impl Course {
         Ok(())
     }
 
-    // These bytes were received.
+    // These bytes were received, which are to be the next ones of those that were sent.
     fn receive(&mut self, bytes: &[u8]) -> Result<(), IoFault>
         ensures same { IsSameBytes self.old self.new }
         ensures less { OnOk result (left_of self.new < left_of self.old) }
-        ensures fault { IfErr result IsOwnFault }
+        ensures ok { OnOk result ((received_in self.new ≡ received_in self.old ++ bytes.now) × (self.new.sent ≡ self.old.sent)) }
+        ensures fault { IfErr result (ReceiveFault self.old bytes.now) }
     {
         let all = self.bytes.as_slice();
         if bytes.is_empty() {
             return Err(IoFault::UnexpectedEof);
         }
-        if !all[self.received..].starts_with(bytes) {
+        if !all[self.received..self.sent].starts_with(bytes) {
             return Err(IoFault::InvalidData);
         }
         self.received += bytes.len();

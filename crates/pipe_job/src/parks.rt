@@ -38,8 +38,8 @@ fn park_driver<I: NonBlock, P: Ledger, D: Ledger, T: Wait + Clock>(
     ensures drains { DrainsFor result.turned.stop (Some millis) sleeper.old sleeper.new result.remote }
     ensures aims { (aims : ℕ → List ℕ) → MeetAims aim_of IsAim aims exec.old → MeetAims aim_of IsAim aims exec.new }
     ensures turns { LegacyTurns I.view I.tells I.reporting I.memory exec.old.driver exec.new.driver result.turned }
-    ensures waits { NoneForgotten WaitsPipe exec.old → (now : ℕ)
-        → AreWaiting WaitsPipe exec.new.driver (ready_of now (named_by result) exec.new) }
+    ensures waits { NoneForgotten (WaitsPipe I.files I.memory) exec.old → (now : ℕ)
+        → AreWaiting (WaitsPipe I.files I.memory) exec.new.driver (ready_of now (named_by result) exec.new) }
 {
     exec.driver.park_timeout(rt, sleeper, millis)
 }
@@ -70,7 +70,7 @@ pub fn park<I: NonBlock, P: Ledger, D: Ledger, T: Wait + Clock>(
     ensures spawned { spawned_of exec.new ≡ spawned_of exec.old }
     ensures marked { OnErr result.1 ((t : ℕ) → tasks_of exec.new t ≡ ready_of now (named_by result.0) exec.old t) }
     // No job that is pending is forgotten.
-    ensures waits { NoneForgotten WaitsPipe exec.old → NoneForgotten WaitsPipe exec.new }
+    ensures waits { NoneForgotten (WaitsPipe I.files I.memory) exec.old → NoneForgotten (WaitsPipe I.files I.memory) exec.new }
     // It comes to each task whose operation waits in its pipe's list and can go on.
     ensures misses { IfOk result.1 (MissesNone I.view I.tells I.reporting I.memory exec.old.driver result.0.turned (tasks_of exec.old)) }
     // The wakers of the answer are those that the sleeper drained, in its order.

@@ -1,12 +1,14 @@
 //! A job that sends its bytes into a pipe, and then receives as many.
-ghost use Rattle.std.specs.Prelude.{◌≡◌, ◌<◌, ◌+◌, ◌^◌, ℕ, OnErr, OnOk};
+ghost use Rattle.std.specs.Prelude.{◌≡◌, ◌<◌, ◌+◌, ◌^◌, ℕ, [], OnErr, OnOk};
 ghost use Rattle.core_exec.specs.Job.{IfBack, IfPending, Steps};
 ghost use Rattle.ready_driver.specs.LegacyState.{ops_in};
 ghost use Rattle.pipe_job.specs.Awaits.{AwaitsBy, AwaitsJob, KeepsWaiting, WaitsPipe};
 ghost use Rattle.pipe_job.specs.PipeJob.{FitsPipe, ApartPipes, IsIdle, IsAim, aim_of, cancels_of, polls_of};
-ghost use Rattle.pipe_job.specs.PipeJob.{AsksPipe, AsksWait, EndsJob, FitsEach, HoldsPipe, IsGonePipe, WaitsJob};
-ghost use Rattle.pipe_job.specs.Course.{IsSameBytes};
-ghost use Rattle.pipe_job.specs.Steps.{IfWhole, IsWhole, StepsTo, as_step};
+ghost use Rattle.pipe_job.specs.PipeJob.{AsksPipe, AsksWait, EndsJob, FitsEach, HoldsPipe, IsGonePipe, MovesJob, WaitsJob, received_of};
+ghost use Rattle.pipe_job.specs.PipeJob.{IsNewPipe, LeavesPipe, sent_of};
+ghost use Rattle.pipe_job.specs.Rest.{LeavesRest};
+ghost use Rattle.pipe_job.specs.Course.{IsSameBytes, IsWhole};
+ghost use Rattle.pipe_job.specs.Steps.{IfWhole, StepsTo, as_step};
 ghost use Rattle.pipe_job.specs.Waits.{FitsWait, HoldsWait, IsGoneWait, KeepsApart, apart_swaps, idle_apart};
 
 use crate::course::Course;
@@ -32,6 +34,7 @@ impl PipeJob {
         ensures idle { IsIdle result }
         ensures fits { FitsEach result }
         ensures aim { aim_of result ≡ bytes }
+        ensures none { (sent_of result ≡ []) × (received_of result ≡ []) }
     {
         let bytes = bytes.into_vec();
         let room = Vec::new(*bytes.allocator());
@@ -50,8 +53,10 @@ impl PipeJob {
         ensures gone { IsGonePipe driver.new self }
         ensures others { (other : PipeJob) → HoldsPipe driver.old other → ApartPipes self other → HoldsPipe driver.new other }
         // One that waits, waits still.
-        ensures stays { (other : PipeJob) (s : ℕ) → HoldsPipe driver.old other → ApartPipes self other → WaitsPipe driver.old s other
-            → WaitsPipe driver.new s other }
+        ensures stays { (other : PipeJob) (s : ℕ) → HoldsPipe driver.old other → ApartPipes self other
+            → WaitsPipe I.files I.memory driver.old s other → WaitsPipe I.files I.memory driver.new s other }
+        // The user holds each handle as often, and the driver each operation that isn't the job's.
+        ensures rest { LeavesPipe driver.old driver.new self }
     {
         let PipeJob {
             course: _,
@@ -64,12 +69,13 @@ impl PipeJob {
 }
 
 // Drops what a job waits for.
-#[tactic(auto, using(crate::proofs::Frames::same_fit, crate::proofs::Staying::same_stays))]
+#[tactic(auto, using(crate::proofs::Frames::same_fit, crate::proofs::Staying::same_stays, crate::proofs::Resting::same_rest))]
 fn drop_wait<I: NonBlock>(driver: &mut LegacyDriver<I, Rent>, wait: Wait)
     requires fits { HoldsWait (ops_in driver.old) wait }
     ensures gone { IsGoneWait (ops_in driver.new) wait }
     ensures others { KeepsApart (ops_in driver.old) (ops_in driver.new) wait }
-    ensures stays { KeepsWaiting driver.old driver.new wait }
+    ensures stays { KeepsWaiting I.files I.memory driver.old driver.new wait }
+    ensures rest { LeavesRest driver.old driver.new wait }
 {
     match wait {
         Wait::Room(_) => {}
@@ -78,17 +84,18 @@ fn drop_wait<I: NonBlock>(driver: &mut LegacyDriver<I, Rent>, wait: Wait)
 }
 
 // Asks for the cancel of what a job of a pipe waits for, which was asked for so often before.
-#[tactic(auto, using(crate::proofs::Frames::same_fit, crate::proofs::Frames::all_apart, crate::proofs::Frames::canceled_apart, crate::proofs::Frames::canceled_fits))]
+#[tactic(auto, using(crate::proofs::Frames::same_fit, crate::proofs::Frames::all_apart, crate::proofs::Frames::canceled_apart, crate::proofs::Resting::same_rest, crate::proofs::Resting::asked_rest))]
 fn cancel_wait<I: NonBlock>(
     driver: &mut LegacyDriver<I, Rent>,
     course: &Course,
     wait: &Wait,
     cancels: u64,
 ) -> Result<(), OutOfMemory>
-    requires fits { FitsWait (ops_in driver.old) course.now.pipe cancels wait.now }
-    ensures fits { OnOk result (FitsWait (ops_in driver.new) course.now.pipe (cancels + 1) wait.now) }
+    requires fits { FitsWait (ops_in driver.old) course.now cancels wait.now }
+    ensures fits { OnOk result (FitsWait (ops_in driver.new) course.now (cancels + 1) wait.now) }
     ensures others { KeepsApart (ops_in driver.old) (ops_in driver.new) wait.now }
     ensures asks { AsksWait driver.old driver.new wait.now result }
+    ensures rest { LeavesRest driver.old driver.new wait.now }
     ensures err { OnErr result (driver.new ≡ driver.old) }
 {
     match wait {
@@ -106,10 +113,10 @@ fn run<I: NonBlock>(
     task: u64,
     cancels: u64,
 ) -> JobStep<Wait, Result<(), IoFault>>
-    requires fits { FitsWait (ops_in driver.old) course.old.pipe cancels wait }
+    requires fits { FitsWait (ops_in driver.old) course.old cancels wait }
     ensures same { IsSameBytes course.old course.new }
-    ensures steps { StepsTo I.files I.view I.tells course.old.pipe cancels driver.old driver.new wait (as_step result) }
-    ensures awaits { AwaitsBy driver.new course.old.pipe task (as_step result) }
+    ensures steps { StepsTo I.files I.view I.tells I.memory course.old course.new cancels driver.old driver.new wait (as_step result) }
+    ensures awaits { AwaitsBy I.files I.memory driver.new course.old.pipe task (as_step result) }
     ensures whole { IfWhole (as_step result) (IsWhole course.new) }
 {
     let mut wait = wait;
@@ -136,7 +143,7 @@ impl<I: NonBlock> Job<LegacyDriver<I, Rent>> for PipeJob {
 
     ghost fits = { FitsPipe };
 
-    ghost waits = { WaitsPipe };
+    ghost waits = { WaitsPipe I.files I.memory };
 
     ghost apart = { ApartPipes };
 
@@ -156,17 +163,24 @@ impl<I: NonBlock> Job<LegacyDriver<I, Rent>> for PipeJob {
         requires counter { polls_of self < 2 ^ 62 }
         ensures step { Steps polls_of cancels_of aim_of IsAim self result }
         ensures fits { IfBack result (FitsPipe driver.new task) }
-        ensures others { (other : PipeJob) (s : ℕ) → FitsPipe driver.old s other → ApartPipes self other → FitsPipe driver.new s other }
+        ensures others { (other : PipeJob) (s : ℕ) → FitsPipe driver.old s other → ApartPipes self other
+            → FitsPipe driver.new s other }
         ensures apart { IfBack result (λ job. (other : PipeJob) (s : ℕ) → FitsPipe driver.old s other → ApartPipes self other
             → ApartPipes job other) }
-        ensures left_waiting { IfPending result (WaitsPipe driver.new task) }
-        ensures stays { (other : PipeJob) (s : ℕ) → FitsPipe driver.old s other → ApartPipes self other → WaitsPipe driver.old s other
-            → WaitsPipe driver.new s other }
+        ensures left_waiting { IfPending result (WaitsPipe I.files I.memory driver.new task) }
+        ensures stays { (other : PipeJob) (s : ℕ) → FitsPipe driver.old s other → ApartPipes self other
+            → WaitsPipe I.files I.memory driver.old s other → WaitsPipe I.files I.memory driver.new s other }
         // Each fault has its cause, and it is pending only where more can't be done at once.
-        ensures ends { EndsJob I.files I.view I.tells driver.old driver.new self result }
+        ensures ends { EndsJob I.view I.tells driver.old driver.new self result }
         ensures waits { WaitsJob I.view driver.old driver.new result }
         // One that is pending waits with its task in the list of its pipe.
-        ensures awaits { AwaitsJob driver.new task result }
+        ensures awaits { AwaitsJob I.files I.memory driver.new task result }
+        // What it sends and receives goes through its pipe, and is all that changes of what it has sent and received.
+        ensures moves { MovesJob I.view I.tells I.memory driver.old driver.new self result }
+        // The user holds each handle as often, and the driver each operation that isn't the job's; the one that the job waits for is its own
+        // still, or new.
+        ensures rest { LeavesPipe driver.old driver.new self }
+        ensures fresh { IfBack result (IsNewPipe driver.old.given self) }
     {
         let PipeJob {
             course,
@@ -207,12 +221,16 @@ impl<I: NonBlock> Job<LegacyDriver<I, Rent>> for PipeJob {
             → FitsPipe driver.new s other }
         ensures apart { (other : PipeJob) (s : ℕ) → FitsPipe driver.old s other → ApartPipes self.old other
             → ApartPipes self.new other }
-        ensures stays { (other : PipeJob) (s : ℕ) → FitsPipe driver.old s other → ApartPipes self.old other → WaitsPipe driver.old s other
-            → WaitsPipe driver.new s other }
+        ensures stays { (other : PipeJob) (s : ℕ) → FitsPipe driver.old s other → ApartPipes self.old other
+            → WaitsPipe I.files I.memory driver.old s other → WaitsPipe I.files I.memory driver.new s other }
         // The driver is asked for the cancel of the operation that it waits for.
         ensures asks { AsksPipe driver.old driver.new self.old result }
         // If it waits, it waits still: the next turn of the driver names its task.
-        ensures waits { (s : ℕ) → WaitsPipe driver.old s self.old → WaitsPipe driver.new s self.new }
+        ensures waits { (s : ℕ) → WaitsPipe I.files I.memory driver.old s self.old → WaitsPipe I.files I.memory driver.new s self.new }
+        ensures rest { LeavesPipe driver.old driver.new self.old }
+        ensures own { self.new.wait ≡ self.old.wait }
+        // What it has sent and received stays.
+        ensures course { self.new.course ≡ self.old.course }
     {
         cancel_wait(driver, &self.course, &self.wait, self.cancels)?;
         self.cancels += 1;

@@ -1,15 +1,17 @@
 // One step of a poll: a submission, or the poll of an operation.
-ghost use Rattle.std.specs.Prelude.{◌≡◌, ◌<◌, ◌+◌, None, IsTrue, IfOk, IfErr};
+ghost use Rattle.std.specs.Prelude.{◌<◌, ◌+◌, None, IsTrue, IfOk, IfErr};
 ghost use Rattle.ring_core.specs.Request.{named};
 ghost use Rattle.driver_core.specs.Op.{AddsToken, Holds};
 ghost use Rattle.ready_driver.specs.LegacyState.{holds_all, ops_in};
 ghost use Rattle.ready_driver.specs.LegacyCalls.{JoinsOp, SubmitRefused};
 ghost use Rattle.ready_driver.specs.Io.{IsLater};
 ghost use Rattle.pipe_job.specs.Awaits.{AwaitsBy, AwaitsNone, KeepsWaiting};
-ghost use Rattle.pipe_job.specs.Course.{IsSameBytes, left_of};
-ghost use Rattle.pipe_job.specs.Waits.{FitsWait, IfBack, IfAgain, KeepsApart, StaysApart, most_steps};
 ghost use Rattle.pipe_job.specs.Causes.{StepEndsFor, WaitsBy};
-ghost use Rattle.pipe_job.specs.Steps.{IfWhole, IsWhole, StepFor, StepsTo};
+ghost use Rattle.pipe_job.specs.Course.{IsSameBytes, IsWhole, left_of};
+ghost use Rattle.pipe_job.specs.Moves.{HasOwn, MovesOn};
+ghost use Rattle.pipe_job.specs.Rest.{IsOwnOrNew, LeavesRest};
+ghost use Rattle.pipe_job.specs.Steps.{IfWhole, StepFor, StepsTo, UnlessFault};
+ghost use Rattle.pipe_job.specs.Waits.{FitsWait, IfBack, IfAgain, KeepsApart, StaysApart, most_steps};
 
 use crate::course::Course;
 use driver_core::{Done, MOST_GIVEN, Op, PollOp, SubmitError, SubmitFault, Submitted};
@@ -20,7 +22,7 @@ use ring_core::{CANCELED, Request};
 /// The error of a job whose pipe its user doesn't hold. (Linux: `EBADF`)
 pub const NOT_HELD: u16 = 9;
 
-// The error of a driver that takes no further operation, and of a call on a file that would have blocked. (Linux: `EAGAIN`)
+// The error of a driver that takes no further operation. (Linux: `EAGAIN`)
 pub(crate) const AGAIN: u16 = 11;
 
 // What a job waits for.
@@ -69,20 +71,25 @@ fn submit_alone<I: NonBlock>(
 }
 
 // Submits the next operation of a job.
-#[tactic(auto, using(crate::proofs::Frames::same_fit, crate::proofs::Frames::all_apart, crate::proofs::Frames::submitted_keeps, crate::proofs::Frames::submitted_own, crate::proofs::Frames::submitted_apart, crate::proofs::Submitting::moves_named, crate::proofs::Submitting::joined_later, crate::proofs::Submitting::refused_later, crate::proofs::Submitting::refused_full, crate::proofs::Staying::same_stays))]
+#[tactic(auto, using(crate::proofs::Frames::same_fit, crate::proofs::Frames::all_apart, crate::proofs::Frames::submitted_keeps, crate::proofs::Frames::submitted_own, crate::proofs::Frames::submitted_apart, crate::proofs::Submitting::moves_named, crate::proofs::Submitting::joined_later, crate::proofs::Submitting::refused_later, crate::proofs::Submitting::refused_full, crate::proofs::Staying::same_stays, crate::proofs::Resting::same_rest))]
 fn submit<I: NonBlock>(
     driver: &mut LegacyDriver<I, Rent>,
     course: &Course,
     room: Vec<u8>,
     cancels: u64,
 ) -> Step
-    ensures fits { IfBack result (FitsWait (ops_in driver.new) course.now.pipe cancels) }
+    requires left { IsWhole course.now → ⊥ }
+    ensures fits { IfBack result (FitsWait (ops_in driver.new) course.now cancels) }
     ensures others { KeepsApart (ops_in driver.old) (ops_in driver.new) (Wait.Room room) }
     ensures apart { IfBack result (StaysApart (ops_in driver.old) (Wait.Room room)) }
     ensures later { IsLater (I.view driver.old.handling.io) (I.view driver.new.handling.io) }
-    ensures stays { KeepsWaiting driver.old driver.new (Wait.Room room) }
-    ensures ends { StepEndsFor I.files I.view I.tells course.now.pipe cancels driver.old driver.new result }
+    ensures stays { KeepsWaiting I.files I.memory driver.old driver.new (Wait.Room room) }
+    ensures ends { StepEndsFor I.view I.tells course.now.pipe cancels (HasOwn (I.view driver.old.handling.io).world course.now) driver.old
+        driver.new result }
     ensures waits { WaitsBy I.view driver.old driver.new result }
+    ensures moves { UnlessFault result (MovesOn I.view I.tells I.memory course.now course.now driver.old driver.new) }
+    ensures rest { LeavesRest driver.old driver.new (Wait.Room room) }
+    ensures fresh { IfBack result (IsOwnOrNew driver.old.given (Wait.Room room)) }
     ensures awaits { AwaitsNone result }
     ensures less { IfAgain result (λ next. most_steps course.now next < most_steps course.now (Wait.Room room)) }
     ensures whole { IfWhole result (IsWhole course.now) }
@@ -115,7 +122,7 @@ fn submit<I: NonBlock>(
 // The step that follows a job's operation that ended.
 fn ended(course: &mut Course, done: Done<Rent>) -> Step
     ensures same { IsSameBytes course.old course.new }
-    ensures step { StepFor done result }
+    ensures step { StepFor course.old course.new done result }
     ensures less { IfAgain result (λ next. most_steps course.new next < left_of course.old + left_of course.old) }
 {
     match course.take_in(done) {
@@ -125,21 +132,19 @@ fn ended(course: &mut Course, done: Done<Rent>) -> Step
 }
 
 // Drops an operation.
-#[tactic(auto, using(crate::proofs::Frames::dropped_apart, crate::proofs::Staying::dropped_stays))]
+#[tactic(auto, using(crate::proofs::Frames::dropped_apart))]
 pub(crate) fn drop_op<I: NonBlock>(driver: &mut LegacyDriver<I, Rent>, op: Op)
     requires held { Holds (ops_in driver.old) op }
     ensures gone { Holds (ops_in driver.new) op → ⊥ }
     ensures others { KeepsApart (ops_in driver.old) (ops_in driver.new) (Wait.Waiting op) }
-    ensures stays { KeepsWaiting driver.old driver.new (Wait.Waiting op) }
-    ensures later { IsLater (I.view driver.old.handling.io) (I.view driver.new.handling.io) }
-    ensures world { IsTrue I.tells → (I.view driver.new.handling.io).world ≡ (I.view driver.old.handling.io).world }
+    ensures stays { KeepsWaiting I.files I.memory driver.old driver.new (Wait.Waiting op) }
+    ensures rest { LeavesRest driver.old driver.new (Wait.Waiting op) }
 {
     driver.drop_op(op);
     driver.given();
 }
 
-// Polls the operation of a job. Nothing is reported of a file: where a call on one would have blocked nothing would name the task, so the
-// operation is dropped.
+// Polls the operation of a job.
 fn poll_op<I: NonBlock>(
     driver: &mut LegacyDriver<I, Rent>,
     course: &mut Course,
@@ -147,24 +152,17 @@ fn poll_op<I: NonBlock>(
     task: u64,
     cancels: u64,
 ) -> Step
-    requires fits { FitsWait (ops_in driver.old) course.old.pipe cancels (Wait.Waiting op) }
+    requires fits { FitsWait (ops_in driver.old) course.old cancels (Wait.Waiting op) }
     ensures same { IsSameBytes course.old course.new }
-    ensures steps { StepsTo I.files I.view I.tells course.old.pipe cancels driver.old driver.new (Wait.Waiting op) result }
-    ensures awaits { AwaitsBy driver.new course.old.pipe task result }
+    ensures steps { StepsTo I.files I.view I.tells I.memory course.old course.new cancels driver.old driver.new (Wait.Waiting op) result }
+    ensures awaits { AwaitsBy I.files I.memory driver.new course.old.pipe task result }
     ensures less { IfAgain result (λ next. most_steps course.new next < most_steps course.old (Wait.Waiting op)) }
     ensures whole { IfWhole result (IsWhole course.new) }
 {
-    let is_file = driver.io().is_file(course.pipe());
     let answer = driver.poll_op(op, task);
     driver.given();
     match answer {
-        Ok(PollOp::Pending(op)) => {
-            if is_file {
-                drop_op(driver, op);
-                return Step::Ended(Err(IoFault::Os(AGAIN)));
-            }
-            Step::Pending(Wait::Waiting(op))
-        }
+        Ok(PollOp::Pending(op)) => Step::Pending(Wait::Waiting(op)),
         Ok(PollOp::Ready(done)) => ended(course, done),
         Err((_, op)) => Step::OutOfMemory(Wait::Waiting(op)),
     }
@@ -178,10 +176,10 @@ pub(crate) fn advance<I: NonBlock>(
     task: u64,
     cancels: u64,
 ) -> Step
-    requires fits { FitsWait (ops_in driver.old) course.old.pipe cancels wait }
+    requires fits { FitsWait (ops_in driver.old) course.old cancels wait }
     ensures same { IsSameBytes course.old course.new }
-    ensures steps { StepsTo I.files I.view I.tells course.old.pipe cancels driver.old driver.new wait result }
-    ensures awaits { AwaitsBy driver.new course.old.pipe task result }
+    ensures steps { StepsTo I.files I.view I.tells I.memory course.old course.new cancels driver.old driver.new wait result }
+    ensures awaits { AwaitsBy I.files I.memory driver.new course.old.pipe task result }
     ensures less { IfAgain result (λ next. most_steps course.new next < most_steps course.old wait) }
     ensures whole { IfWhole result (IsWhole course.new) }
 {

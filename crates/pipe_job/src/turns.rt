@@ -28,8 +28,8 @@ fn turn_driver<I: NonBlock>(exec: &mut PipeExec<I>) -> Turned
     ensures numbers { (exec.new.spawned ≡ exec.old.spawned) × (exec.new.turns ≡ exec.old.turns) }
     ensures aims { (aims : ℕ → List ℕ) → MeetAims aim_of IsAim aims exec.old → MeetAims aim_of IsAim aims exec.new }
     ensures turns { LegacyTurns I.view I.tells I.reporting I.memory exec.old.driver exec.new.driver result }
-    ensures waits { NoneForgotten WaitsPipe exec.old → (now : ℕ)
-        → AreWaiting WaitsPipe exec.new.driver (ready_of now result.woken exec.new) }
+    ensures waits { NoneForgotten (WaitsPipe I.files I.memory) exec.old → (now : ℕ)
+        → AreWaiting (WaitsPipe I.files I.memory) exec.new.driver (ready_of now result.woken exec.new) }
 {
     exec.driver.submit()
 }
@@ -52,7 +52,7 @@ pub fn turn<I: NonBlock>(exec: &mut PipeExec<I>, now: u64) -> (Turned, Result<Ra
     ensures spawned { spawned_of exec.new ≡ spawned_of exec.old }
     ensures marked { OnErr result.1 ((t : ℕ) → tasks_of exec.new t ≡ ready_of now result.0.woken exec.old t) }
     // No job that is pending is forgotten.
-    ensures waits { NoneForgotten WaitsPipe exec.old → NoneForgotten WaitsPipe exec.new }
+    ensures waits { NoneForgotten (WaitsPipe I.files I.memory) exec.old → NoneForgotten (WaitsPipe I.files I.memory) exec.new }
     // It comes to each task whose operation waits in its pipe's list and can go on.
     ensures misses { IfOk result.1 (MissesNone I.view I.tells I.reporting I.memory exec.old.driver result.0 (tasks_of exec.old)) }
 {

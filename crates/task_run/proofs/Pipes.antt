@@ -11,7 +11,7 @@ use Rattle.pipe_job.proofs.Frames.{all_fit}
 pub given_sound : {I : Type 0} (old new : LegacyState I Rented) (jobs : ℕ → Option PipeJob) → SameOps old new
     → AreSound FitsPipe ApartPipes old jobs → AreSound FitsPipe ApartPipes new jobs
 given_sound old new jobs same sound = record {
-  all_fit = λ t job is. all_fit (ops_in old) (ops_in new) same.slots same.given job.course.pipe job.cancels job.wait
+  all_fit = λ t job is. all_fit (ops_in old) (ops_in new) same.slots same.given job.course job.cancels job.wait
       (sound.all_fit t job is);
   all_apart = sound.all_apart;
 }

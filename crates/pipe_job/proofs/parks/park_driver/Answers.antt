@@ -9,6 +9,6 @@ use Rattle.pipe_job.proofs.parks.park_driver.Goals as goal
 pub returns-clause-waits : goal.returns-clause-waits
 returns-clause-waits g c = λ waiting now.
     let parked = c.park_timeout.result in
-    turned_waits g.I.NonBlock.view g.I.NonBlock.tells g.I.NonBlock.reporting g.I.NonBlock.memory c.args.exec.now.driver
+    turned_waits g.I.NonBlock.files g.I.NonBlock.view g.I.NonBlock.tells g.I.NonBlock.reporting g.I.NonBlock.memory c.args.exec.now.driver
     c.park_timeout.new.self parked.turned c.park_timeout.ensures.turns now (named_by parked) (tasks_of c.args.exec.now)
     (tasks_of c.args.exec.now) (has_behind (drained_in parked) parked.turned.woken) refl waiting

@@ -8,7 +8,7 @@ use Rattle.pipe_job.proofs.pipe_job.run.Given as goal
 abbrev pub invariant-loop-next : goal.invariant-loop-next
 invariant-loop-next g l = record {
   same : IsSameBytes l.initial.course l.course;
-  steps : StepsTo g.I.NonBlock.files g.I.NonBlock.view g.I.NonBlock.tells l.initial.course.pipe l.cancels
+  steps : StepsTo g.I.NonBlock.files g.I.NonBlock.view g.I.NonBlock.tells g.I.NonBlock.memory l.initial.course l.course l.cancels
       l.initial.driver l.driver l.initial.wait (Again l.wait);
 }
 

@@ -28,5 +28,6 @@ returns-clause-misses g c =
 pub returns-clause-waits : goal.returns-clause-waits
 returns-clause-waits g c = λ waiting.
     c.turn-ran.ensures.waits
-    (subst (λ named. AreWaiting WaitsPipe c.turn_driver-turned.new.exec.driver (ready_of c.args.now named c.turn_driver-turned.new.exec))
+    (subst (λ named. AreWaiting (WaitsPipe g.I.NonBlock.files g.I.NonBlock.memory) c.turn_driver-turned.new.exec.driver
+    (ready_of c.args.now named c.turn_driver-turned.new.exec))
     (sym c.as_slice.ensures) (c.turn_driver-turned.ensures.waits waiting c.args.now))

@@ -7,6 +7,7 @@ use Rattle.pipe_job.proofs.turns.turn_driver.Goals as goal
 -- the turn names a task, or leaves it waiting
 pub returns-clause-waits : goal.returns-clause-waits
 returns-clause-waits g c = λ waiting now.
-    turned_waits g.I.NonBlock.view g.I.NonBlock.tells g.I.NonBlock.reporting g.I.NonBlock.memory c.args.exec.now.driver c.submit.new.self
+    turned_waits g.I.NonBlock.files g.I.NonBlock.view g.I.NonBlock.tells g.I.NonBlock.reporting g.I.NonBlock.memory c.args.exec.now.driver
+    c.submit.new.self
     c.submit.result c.submit.ensures.turns now c.submit.result.woken (tasks_of c.args.exec.now) (tasks_of c.args.exec.now)
     (has_in c.submit.result.woken) refl waiting
