@@ -3,7 +3,7 @@ ghost use Rattle.std.specs.Prelude.{IfOk};
 ghost use Rattle.ready_driver.specs.LegacyState.{Holds};
 
 use crate::tests::stage::{Asked, InMemory, Stage, Why};
-use driver_core::{Done, Driver as _, MOST_GIVEN, Op, PollOp, Submitted, Turned};
+use driver_core::{Done, Driver as _, MOST_GIVEN, Op, Parked, PollOp, Submitted, Turned};
 use handle_core::{Released, SharedFd};
 use ready_driver::{LegacyDriver, MemIo, NonBlock, NonBlockError, Ready, Sockets};
 use rent_buf::Rent;
@@ -38,7 +38,8 @@ impl Opens for MemIo {
 /// A driver, the tokens of its operations by place, and the sleeper that its parks are lent.
 pub(crate) struct Bench<'a, I: NonBlock, P: Ledger, D: Ledger, T> {
     driver: LegacyDriver<I, Rent>,
-    ops: Vec<Option<Op>>,
+    first: Option<Op>,
+    second: Option<Op>,
     sleeper: &'a mut Sleeper<P, D>,
     rt: &'a T,
 }
@@ -55,14 +56,13 @@ impl<'a, I: NonBlock, P: Ledger, D: Ledger, T> Drop for Bench<'a, I, P, D, T> {
     fn drop(self) {
         let Bench {
             driver: _,
-            mut ops,
+            first,
+            second,
             sleeper: _,
             rt: _,
         } = self;
-        while let Some(token) = ops.pop() {
-            forget(token);
-        }
-        ops.destroy_empty();
+        forget(first);
+        forget(second);
     }
 }
 
@@ -110,31 +110,26 @@ impl<'a, I: NonBlock, P: Ledger, D: Ledger, T> Bench<'a, I, P, D, T> {
         io: I,
         sleeper: &'a mut Sleeper<P, D>,
         rt: &'a T,
-    ) -> Result<Bench<'a, I, P, D, T>, Why> {
-        let mut ops = Vec::new(alloc);
-        if ops.reserve(2).is_err() {
-            ops.destroy_empty();
-            return Err(Why::OutOfMemory);
-        }
-        ops.push_reserved(None);
-        ops.push_reserved(None);
-        let driver = LegacyDriver::over(alloc, io);
-        Ok(Bench {
-            driver,
-            ops,
+    ) -> Bench<'a, I, P, D, T> {
+        Bench {
+            driver: LegacyDriver::over(alloc, io),
+            first: None,
+            second: None,
             sleeper,
             rt,
-        })
+        }
     }
 
     // Takes the token of an operation that the driver holds.
     fn take(&mut self, place: usize) -> Result<Op, Why>
         ensures { IfOk result (λ op. Holds self.new.driver op) }
     {
-        if place >= self.ops.len() {
-            return Err(Why::Unmet);
-        }
-        let Some(op) = self.ops[place].take() else {
+        let token = if place == 0 {
+            self.first.take()
+        } else {
+            self.second.take()
+        };
+        let Some(op) = token else {
             return Err(Why::Unmet);
         };
         if self.driver.holds(&op) {
@@ -146,11 +141,19 @@ impl<'a, I: NonBlock, P: Ledger, D: Ledger, T> Bench<'a, I, P, D, T> {
 
     // Puts the token of an operation at a place.
     fn put(&mut self, place: usize, op: Op) {
-        if place >= self.ops.len() {
-            op.forget();
-            return;
+        if place == 0 {
+            forget(self.first.replace(op));
+        } else {
+            forget(self.second.replace(op));
         }
-        forget(self.ops[place].replace(op));
+    }
+}
+
+// What a park drained, if its turn didn't stop.
+fn drained(parked: Parked) -> Result<Woken, Why> {
+    match parked.turned.stop {
+        None => Ok(parked.remote),
+        Some(_) => Err(Why::Unlike),
     }
 }
 
@@ -226,19 +229,10 @@ impl<'a, I: Sockets + Opens, P: Ledger, D: Ledger, T: Wait + Clock> Stage
         self.driver.submit()
     }
 
-    fn park(&mut self) -> Result<(), Why> {
-        let parked = self.driver.park_timeout(self.rt, self.sleeper, 1);
-        match parked.turned.stop {
-            None => Ok(()),
-            Some(_) => Err(Why::Unlike),
-        }
-    }
-
-    fn park_on(&mut self) -> Result<Woken, Why> {
-        let parked = self.driver.park(self.rt, self.sleeper);
-        match parked.turned.stop {
-            None => Ok(parked.remote),
-            Some(_) => Err(Why::Unlike),
+    fn park(&mut self, limit: Option<u64>) -> Result<Woken, Why> {
+        match limit {
+            Some(millis) => drained(self.driver.park_timeout(self.rt, self.sleeper, millis)),
+            None => drained(self.driver.park(self.rt, self.sleeper)),
         }
     }
 
@@ -260,31 +254,22 @@ impl<'a, I: Sockets + Opens, P: Ledger, D: Ledger, T: Wait + Clock> Stage
     }
 }
 
-// A new stream in memory.
-fn give(driver: &mut LegacyDriver<MemIo, Rent>) -> Result<u64, Why> {
-    if driver.handles() >= MOST_HANDLES || driver.known(driver.handles()) {
-        return Err(Why::Unmet);
-    }
-    Ok(driver.give(HandleKind::Stream)?.number())
-}
-
-// Bytes arrive at a handle in memory.
-fn feed(driver: &mut LegacyDriver<MemIo, Rent>, h: u64, bytes: &[u8]) -> Result<(), Why> {
-    if !driver.has_handle(h) {
-        return Err(Why::Unmet);
-    }
-    match driver.feed(h, bytes) {
-        Ok(()) => Ok(()),
-        Err(_) => Err(Why::Unlike),
-    }
-}
-
 impl<'a, P: Ledger, D: Ledger, T> InMemory for Bench<'a, MemIo, P, D, T> {
     fn stream(&mut self) -> Result<u64, Why> {
-        give(&mut self.driver)
+        let driver = &mut self.driver;
+        if driver.handles() >= MOST_HANDLES || driver.known(driver.handles()) {
+            return Err(Why::Unmet);
+        }
+        Ok(driver.give(HandleKind::Stream)?.number())
     }
 
     fn feed(&mut self, h: u64, bytes: &[u8]) -> Result<(), Why> {
-        feed(&mut self.driver, h, bytes)
+        if !self.driver.has_handle(h) {
+            return Err(Why::Unmet);
+        }
+        match self.driver.feed(h, bytes) {
+            Ok(()) => Ok(()),
+            Err(_) => Err(Why::Unlike),
+        }
     }
 }

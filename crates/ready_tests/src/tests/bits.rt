@@ -28,7 +28,6 @@ const INTERESTS: &[(Watch, &str)] = &[
 ];
 
 // What is made of two sets of bits.
-#[derive(Clone, Copy)]
 enum Makes {
     Or,
     OrAssign,
@@ -67,7 +66,6 @@ const MADE: &[(&[Bit], Makes, Bit, &str)] = &[
 ];
 
 // What is asked of a set of bits.
-#[derive(Clone, Copy)]
 enum Asks {
     Empty,
     Readable,
@@ -96,7 +94,6 @@ const ASKED: &[(&[Bit], Asks, bool)] = &[
 ];
 
 // Interests that are joined.
-#[derive(Clone, Copy)]
 enum Joins {
     Add,
     Or,
@@ -115,24 +112,21 @@ const MASKS: &[(Direction, Bit)] = &[
     (Direction::Write, Bit::WriteAll),
 ];
 
-// The bits of either, added to the left ones.
-fn added(mut left: Ready, right: Ready) -> Ready {
-    left |= right;
-    left
-}
-
 // What is made of two sets.
-fn made(left: Ready, makes: Makes, right: Ready) -> Ready {
+fn made(mut left: Ready, makes: &Makes, right: Ready) -> Ready {
     match makes {
         Makes::Or => left | right,
-        Makes::OrAssign => added(left, right),
+        Makes::OrAssign => {
+            left |= right;
+            left
+        }
         Makes::And => left & right,
         Makes::Minus => left - right,
     }
 }
 
 // What a set answers.
-fn answer(ready: Ready, asks: Asks) -> bool {
+fn answer(ready: Ready, asks: &Asks) -> bool {
     match asks {
         Asks::Empty => ready.is_empty(),
         Asks::Readable => ready.is_readable(),
@@ -144,18 +138,15 @@ fn answer(ready: Ready, asks: Asks) -> bool {
     }
 }
 
-// What either is watched for, added to the left one.
-fn watched(mut left: Interest, right: Interest) -> Interest {
-    left |= right;
-    left
-}
-
 // What two interests are joined to.
-fn joined(left: Interest, joins: Joins, right: Interest) -> Interest {
+fn joined(mut left: Interest, joins: &Joins, right: Interest) -> Interest {
     match joins {
         Joins::Add => left.add(right),
         Joins::Or => left | right,
-        Joins::OrAssign => watched(left, right),
+        Joins::OrAssign => {
+            left |= right;
+            left
+        }
     }
 }
 
@@ -192,7 +183,7 @@ fn bits_have_their_numbers(rt: HostRuntime) -> Result<(), Fail> {
         )?;
     }
     for i in 0..MADE.len() {
-        let (left, makes, right, want) = MADE[i];
+        let (left, makes, right, want) = &MADE[i];
         is_told(
             &rt,
             rt.alloc(),
@@ -207,7 +198,7 @@ fn bits_have_their_numbers(rt: HostRuntime) -> Result<(), Fail> {
 #[test]
 fn bits_are_sets(rt: HostRuntime) {
     for i in 0..ASKED.len() {
-        is_same(&rt, answer(union(ASKED[i].0), ASKED[i].1), ASKED[i].2, i);
+        is_same(&rt, answer(union(ASKED[i].0), &ASKED[i].1), ASKED[i].2, i);
     }
     for i in 0..MASKS.len() {
         is_same(&rt, MASKS[i].0.mask(), MASKS[i].1.ready(), i);
@@ -217,7 +208,7 @@ fn bits_are_sets(rt: HostRuntime) {
 #[test]
 fn interests_are_joined(rt: HostRuntime) {
     for i in 0..JOINED.len() {
-        let (left, joins, right, want) = JOINED[i];
+        let (left, joins, right, want) = &JOINED[i];
         let whole = joined(left.interest(), joins, right.interest());
         is_same(&rt, whole, want.interest(), i);
     }

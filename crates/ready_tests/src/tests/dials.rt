@@ -1,10 +1,10 @@
 // Connections that a driver opens itself.
 use crate::tests::scene::{Scene, play_on};
 use crate::tests::stage::{
-    Asked, Stage, Why, failed, finish, is_like, moved, pends, receive, run, send,
+    Asked, Stage, Why, failed, filled, finish, is_like, moved, pends, receive, run, send,
 };
 use ready_driver::NonBlockError;
-use rent_buf::{IoBuf as _, IoBufMut as _, Rent};
+use rent_buf::{IoBuf as _, Rent};
 use ring_core::{Outcome, Request, SharedFd};
 use socket_io::MioIo;
 use std::alloc::Global;
@@ -19,13 +19,6 @@ const PORTS: u16 = 64;
 const TAKEN: u16 = 98;
 
 const REFUSED: u16 = 111;
-
-// A buffer that is full of these bytes.
-fn filled(alloc: Global, bytes: &[u8]) -> Result<Rent, Why> {
-    let mut buf = Rent::with_total(alloc, bytes.len())?;
-    buf.store(0, bytes);
-    Ok(buf)
-}
 
 /// A listener on the first port that is free, and the port.
 pub(crate) fn listens<S: Stage>(stage: &mut S) -> Result<(u64, u16), Why> {

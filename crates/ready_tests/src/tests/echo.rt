@@ -1,8 +1,8 @@
 // Bytes that are sent to and fro on one thread. The time of a round trip is printed, and compared with nothing.
 use crate::tests::scene::{Scene, play_on};
 use crate::tests::sockets::connects;
-use crate::tests::stage::{Stage, Why, finish, is_like, moved, pends, receive, run, send};
-use rent_buf::{IoBuf, IoBufMut, Rent};
+use crate::tests::stage::{Stage, Why, filled, finish, is_like, moved, pends, receive, run, send};
+use rent_buf::{IoBuf as _, Rent};
 use socket_io::MioIo;
 use std::alloc::Global;
 use std::test::Fail;
@@ -13,13 +13,6 @@ const SIZE: usize = 64;
 
 // How many round trips are made.
 const TRIPS: u32 = 10000;
-
-// A buffer of bytes that are all the same.
-fn filled(alloc: Global, byte: u8) -> Result<Rent, Why> {
-    let mut buf = Rent::with_total(alloc, SIZE)?;
-    IoBufMut::store(&mut buf, 0, &[byte; SIZE]);
-    Ok(buf)
-}
 
 // The handle 1 sends bytes to the handle 2, whose read is pending at place 1; they are sent back, and the handle 2 reads again.
 fn trip<S: Stage>(stage: &mut S, bytes: Rent) -> Result<Rent, Why> {
@@ -36,8 +29,9 @@ fn trip<S: Stage>(stage: &mut S, bytes: Rent) -> Result<Rent, Why> {
 fn trips<S: Stage>(stage: &mut S, alloc: Global) -> Result<(), Why> {
     for number in 0..TRIPS {
         let byte = (number % 251) as u8;
-        let back = trip(stage, filled(alloc, byte)?)?;
-        is_like(IoBuf::bytes(&back) == [byte; SIZE].as_slice())?;
+        let bytes = [byte; SIZE];
+        let back = trip(stage, filled(alloc, &bytes)?)?;
+        is_like(back.bytes() == bytes.as_slice())?;
     }
     Ok(())
 }

@@ -1,8 +1,7 @@
 // A peer that never reads.
 use crate::tests::scene::{Scene, play_on};
 use crate::tests::sockets::connects;
-use crate::tests::stage::{Stage, Why, failed, finish, is_like, run, send};
-use rent_buf::{IoBufMut as _, Rent};
+use crate::tests::stage::{Stage, Why, failed, filled, finish, is_like, run, send};
 use ring_core::{CANCELED, Outcome};
 use socket_io::MioIo;
 use std::alloc::Global;
@@ -19,17 +18,10 @@ const RESET: u16 = 104;
 
 const BROKEN: u16 = 32;
 
-// A buffer that is full.
-fn filled(alloc: Global) -> Result<Rent, Why> {
-    let mut buf = Rent::with_total(alloc, SIZE)?;
-    buf.store(0, &[7; SIZE]);
-    Ok(buf)
-}
-
 // A send is submitted at place 0, and is pending. Each one before it sent some bytes at once.
 fn sends_until_it_waits<S: Stage>(stage: &mut S, alloc: Global) -> Result<(), Why> {
     for _ in 0..TRIES {
-        stage.submit(0, send(1, filled(alloc)?))?;
+        stage.submit(0, send(1, filled(alloc, &[7; SIZE])?))?;
         match stage.poll(0, 0)? {
             Some(done) => is_like(matches!(done.outcome, Outcome::Count(k) if k > 0))?,
             None => return Ok(()),
@@ -41,7 +33,7 @@ fn sends_until_it_waits<S: Stage>(stage: &mut S, alloc: Global) -> Result<(), Wh
 // It stays pending over some parks.
 fn waits<S: Stage>(stage: &mut S) -> Result<(), Why> {
     for _ in 0..5 {
-        stage.park()?;
+        stage.park(Some(1))?;
         is_like(stage.poll(0, 0)?.is_none())?;
     }
     Ok(())
@@ -53,7 +45,7 @@ pub(crate) fn full<S: Stage>(stage: &mut S, alloc: Global) -> Result<(), Why> {
     stage.adopt(0)?;
     stage.adopt(1)?;
     stage.adopt(2)?;
-    run(stage, send(1, filled(alloc)?))?;
+    run(stage, send(1, filled(alloc, &[7; SIZE])?))?;
     sends_until_it_waits(stage, alloc)?;
     waits(stage)?;
     stage.cancel(0)?;
@@ -61,7 +53,7 @@ pub(crate) fn full<S: Stage>(stage: &mut S, alloc: Global) -> Result<(), Why> {
     sends_until_it_waits(stage, alloc)?;
     stage.release(2)?;
     failed(finish(stage, 0)?, RESET)?;
-    failed(run(stage, send(1, filled(alloc)?))?, BROKEN)?;
+    failed(run(stage, send(1, filled(alloc, &[7; SIZE])?))?, BROKEN)?;
     stage.release(0)?;
     stage.release(1)?;
     is_like(stage.left() == (0, 0))

@@ -2,8 +2,8 @@
 use crate::tests::dials::listens;
 use crate::tests::scene::{Scene, play_on};
 use crate::tests::sockets::opens;
-use crate::tests::stage::{Stage, Why, is_like, moved, receive, run, send};
-use rent_buf::{IoBuf as _, IoBufMut as _, Rent};
+use crate::tests::stage::{Stage, Why, filled, is_like, moved, receive, run, send};
+use rent_buf::{IoBuf as _, Rent};
 use ring_core::{Outcome, Request, SharedFd};
 use socket_io::MioIo;
 use std::alloc::Global;
@@ -42,9 +42,8 @@ fn accepts<S: Stage>(stage: &mut S, h: u64) -> Result<(), Why> {
 
 // The handle sends its number, in two bytes.
 fn tells<S: Stage>(stage: &mut S, alloc: Global, h: u64) -> Result<(), Why> {
-    let mut buf = Rent::with_total(alloc, 2)?;
-    buf.store(0, &[(h / 256 % 256) as u8, (h % 256) as u8]);
-    moved(run(stage, send(h, buf))?, 2)?;
+    let number = [(h / 256 % 256) as u8, (h % 256) as u8];
+    moved(run(stage, send(h, filled(alloc, &number)?))?, 2)?;
     Ok(())
 }
 

@@ -93,28 +93,16 @@ const ROWS: &[(&str, &[Step])] = &[
     ),
 ];
 
-// A row on a new driver, whose parks are lent this sleeper.
-fn run_over<P: Ledger, D: Ledger, T: Wait + Clock + Abort>(
-    rt: &T,
-    alloc: Global,
-    sleeper: &mut Sleeper<P, D>,
-    row: (&str, &[Step]),
-) -> Result<(), Why> {
-    let mut bench = Bench::new(alloc, MemIo::new(alloc), sleeper, rt)?;
-    run_row(rt, &mut bench, alloc, row);
-    Ok(())
-}
-
-// Each row.
+// Each row on a new driver, whose parks are lent this sleeper.
 fn run_each<P: Ledger, D: Ledger, T: Wait + Clock + Abort>(
     rt: &T,
     alloc: Global,
     sleeper: &mut Sleeper<P, D>,
-) -> Result<(), Why> {
+) {
     for i in 0..ROWS.len() {
-        run_over(rt, alloc, sleeper, ROWS[i])?;
+        let mut bench = Bench::new(alloc, MemIo::new(alloc), sleeper, rt);
+        run_row(rt, &mut bench, alloc, &ROWS[i]);
     }
-    Ok(())
 }
 
 // The same with a new sleeper.
@@ -128,7 +116,10 @@ fn run_all<P: Ledger, D: Ledger, T: Wait + Clock + Abort>(
     requires drains { (drains.name ≡ D.name) × (drains.parts ≡ D.parts) × (drains.parts ≡ 1) }
 {
     match WakeCell::<P, D>::new(alloc, pushes, drains) {
-        Ok((_cell, mut sleeper)) => run_each(rt, alloc, &mut sleeper),
+        Ok((_cell, mut sleeper)) => {
+            run_each(rt, alloc, &mut sleeper);
+            Ok(())
+        }
         Err(_) => Err(Why::OutOfMemory),
     }
 }

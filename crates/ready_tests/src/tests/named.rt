@@ -2,7 +2,6 @@
 use ready_driver::{Interest, RW_INTERESTS, Ready};
 
 /// A constant of `Ready`.
-#[derive(Clone, Copy)]
 pub(crate) enum Bit {
     Empty,
     Readable,
@@ -18,7 +17,7 @@ pub(crate) enum Bit {
 
 impl Bit {
     /// The constant.
-    pub(crate) fn ready(self) -> Ready {
+    pub(crate) fn ready(&self) -> Ready {
         match self {
             Bit::Empty => Ready::EMPTY,
             Bit::Readable => Ready::READABLE,
@@ -44,7 +43,6 @@ pub(crate) fn union(list: &[Bit]) -> Ready {
 }
 
 /// A constant of `Interest`.
-#[derive(Clone, Copy)]
 pub(crate) enum Watch {
     Reads,
     Writes,
@@ -53,7 +51,7 @@ pub(crate) enum Watch {
 
 impl Watch {
     /// The constant.
-    pub(crate) fn interest(self) -> Interest {
+    pub(crate) fn interest(&self) -> Interest {
         match self {
             Watch::Reads => Interest::READABLE,
             Watch::Writes => Interest::WRITABLE,

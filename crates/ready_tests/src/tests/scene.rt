@@ -50,7 +50,7 @@ fn play_over<I: Sockets + Opens, P: Ledger, D: Ledger, T: Wait + Clock>(
     sleeper: &mut Sleeper<P, D>,
     scene: Scene,
 ) -> Result<(), Why> {
-    let mut bench = Bench::new(alloc, io, sleeper, rt)?;
+    let mut bench = Bench::new(alloc, io, sleeper, rt);
     play(&mut bench, alloc, scene)
 }
 

@@ -1,10 +1,13 @@
-// Sockets of this machine, through the bound alone. Each test takes the first port that is free from one of its own on.
+// Sockets of this machine, through the bound alone. Each row takes the first port that is free from one of its own on.
+use crate::tests::bench::Opens;
+use crate::tests::stage::{Asked, Why, filled, receive, send};
 use driver_core::{CallAnswer, Calls as _};
 use ready_driver::{NonBlock, NonBlockError, Report, Reports, Sockets};
-use rent_buf::{IoBuf as _, IoBufMut as _, Rent, VecBuf};
+use rent_buf::{IoBuf as _, Rent};
 use ring_core::{INVALID, Outcome, Request, SharedFd};
 use socket_io::MioIo;
 use socket_io::mio_io::UNSUPPORTED;
+use std::alloc::Global;
 use std::test::Fail;
 
 // How many waits at most come before a call is made, and how many ports at most are tried.
@@ -15,6 +18,92 @@ const RESET: u16 = 104;
 
 // The error of a connection that nobody accepts. (Linux: `ECONNREFUSED`)
 const REFUSED: u16 = 111;
+
+// What is asked of a handle.
+#[derive(Drop)]
+enum Ask {
+    // A read of at most 8 bytes.
+    Read(u64),
+    // A send of a text.
+    Send(u64, &'static str),
+    // An accept.
+    Accept(u64),
+    // A connect, which sockets don't have.
+    Connect(u64),
+    // A wait until a handle can be read, or written.
+    Ready(u64, bool),
+}
+
+use Ask::{Accept, Read, Ready, Send};
+use CallAnswer::{Done, WouldBlock};
+use Outcome::{Count, Fail as Fails};
+
+// One step, and what it is to answer.
+enum Step {
+    // The handle 0 listens, 1 dials it, and 2 is the one that an accept makes. Each is registered with its number.
+    Connect,
+    // The handle 0 listens on a port, where no second one may.
+    Taken,
+    // A dial of a port is refused, behind its listener, which has the handle 0 and is closed.
+    Nobody,
+    // A call answers so.
+    Once(Ask, CallAnswer),
+    // A call doesn't block.
+    Goes(Ask),
+    // A call, which is made again behind a wait as long as it would block, ends so, and what it read is this.
+    Until(Ask, Outcome, &'static str),
+    // A wait reports that a handle with this key may be read.
+    Readable(usize),
+    // A handle is registered with a key, or isn't.
+    Register(u64, usize, bool),
+    // A handle is closed, or isn't.
+    Close(u64, bool),
+    // How many handles were made.
+    Made(u64),
+    // Whether a handle is a file.
+    File(u64, bool),
+    // Sends to a peer that doesn't read, until a send would block.
+    Fills(u64),
+    // So many times, so many sockets are opened at once and closed.
+    Opens(u32, u64),
+    // How many handles are open.
+    Opened(usize),
+}
+
+use Step::{
+    Close, Connect, File, Fills, Goes, Made, Nobody, Once, Opened, Opens as OpensAll, Readable,
+    Register, Taken, Until,
+};
+
+// Rows: the name of each, the first port that is tried, and the steps.
+//
+// A read behind one that came short would block until the handle is reported again, also where more is there; then it gets that, or the
+// end. A handle whose reports have another key is read at once. A peer that closes with bytes unread resets the connection. A wait for
+// readiness goes through where an accept, a read or a write would, and blocks where that would. A dial of a port where nobody listens is
+// a fault, or a read of its handle fails; the system chooses no such port for the handle itself. More sockets are opened in all than a
+// process may have open at once, where that is fewer than 25,000.
+#[rattlefmt::skip]
+const ROWS: &[(&str, u16, &[Step])] = &[
+    ("bytes arrive", 40017,
+        &[Connect, Once(Read(2), WouldBlock), Until(Send(1, "hello"), Count(5), ""), Readable(2), Until(Read(2), Count(5), "hello")]),
+    ("a short read waits for a report", 40817,
+        &[Connect, Until(Send(1, "hello"), Count(5), ""), Readable(2), Until(Read(2), Count(5), "hello"),
+          Until(Send(1, "again"), Count(5), ""), Until(Ready(2, true), Count(0), ""), Once(Read(2), WouldBlock), Readable(2),
+          Until(Read(2), Count(5), "again"), Register(2, 9, true), Until(Send(1, "other"), Count(5), ""), Goes(Read(2)),
+          Register(2, 2, true), Close(1, true), Readable(2), Until(Read(2), Count(0), ""), Until(Read(2), Count(0), "")]),
+    ("a peer closes", 40117,
+        &[Connect, Close(1, true), Until(Read(2), Count(0), ""), Close(1, false), Register(1, 1, false), Made(3)]),
+    ("a peer resets", 40217,
+        &[Connect, Until(Send(2, "hello"), Count(5), ""), Readable(1), Close(1, true), Until(Read(2), Fails(RESET), "")]),
+    ("nothing is there", 40317,
+        &[Taken, Once(Accept(0), WouldBlock), Once(Read(7), Done(Fails(INVALID))), Once(Ask::Connect(0), Done(Fails(UNSUPPORTED))),
+          File(0, false)]),
+    ("readiness is looked up", 40717,
+        &[Connect, Once(Ready(0, true), WouldBlock), Once(Ready(2, true), WouldBlock), Until(Ready(1, false), Count(0), ""), Fills(1),
+          Once(Ready(1, false), WouldBlock), Until(Ready(2, true), Count(0), ""), Once(Ready(9, true), Done(Fails(INVALID)))]),
+    ("a dial is refused", 20017, &[Nobody]),
+    ("closed sockets make room", 0, &[OpensAll(250, 100), Opened(0)]),
+];
 
 // What a wait of at most 50 milliseconds reports.
 fn reported<I: NonBlock>(rt: &HostRuntime, io: &mut I) -> Result<Reports, Fail> {
@@ -48,7 +137,7 @@ fn becomes_readable<I: NonBlock>(rt: &HostRuntime, io: &mut I, key: usize) -> Re
 fn made<I: NonBlock>(
     rt: &HostRuntime,
     io: &mut I,
-    request: &mut Request<Rent, VecBuf>,
+    request: &mut Asked,
 ) -> Result<CallAnswer, Fail> {
     for _ in 0..TRIES {
         match io.call(request) {
@@ -61,69 +150,53 @@ fn made<I: NonBlock>(
     Ok(CallAnswer::WouldBlock)
 }
 
-// An answer is this count.
-fn is_count(answer: CallAnswer, count: u32) -> bool {
-    matches!(answer, CallAnswer::Done(Outcome::Count(k)) if k == count)
+// A request.
+fn request(alloc: Global, ask: &Ask) -> Result<Asked, Why> {
+    match ask {
+        Ask::Read(h) => Ok(receive(*h, Rent::with_total(alloc, 8)?)),
+        Ask::Send(h, text) => Ok(send(*h, filled(alloc, text.as_bytes())?)),
+        Ask::Accept(h) => Ok(Request::Accept {
+            fd: SharedFd::new(*h),
+        }),
+        Ask::Connect(h) => Ok(Request::Connect {
+            fd: SharedFd::new(*h),
+            addr: 0,
+        }),
+        Ask::Ready(h, read) => Ok(Request::PollAdd {
+            fd: SharedFd::new(*h),
+            read: *read,
+        }),
+    }
 }
 
-// An answer is this error.
-fn is_error(answer: CallAnswer, error: u16) -> bool {
-    matches!(answer, CallAnswer::Done(Outcome::Fail(e)) if e == error)
-}
-
-// A read of at most 8 bytes.
-fn read(rt: &HostRuntime, h: u64) -> Result<Request<Rent, VecBuf>, Fail> {
-    let fd = SharedFd::new(h);
-    let buf = Rent::with_total(rt.alloc(), 8)?;
-    Ok(Request::Recv { fd, buf })
-}
-
-// A request holds these bytes.
-fn holds(request: &Request<Rent, VecBuf>, text: &[u8]) -> bool {
+// A request holds these bytes, if it is a read.
+fn holds(request: &Asked, text: &str) -> bool {
     match request {
-        Request::Recv { buf, .. } => buf.bytes() == text,
-        _ => false,
+        Request::Recv { buf, .. } => buf.bytes() == text.as_bytes(),
+        _ => true,
     }
 }
 
-// A read would block.
-fn has_none<I: NonBlock>(rt: &HostRuntime, io: &mut I, h: u64) -> Result<bool, Fail> {
-    let answer = io.call(&mut read(rt, h)?);
-    Ok(matches!(answer, CallAnswer::WouldBlock))
+// What a call answers.
+fn once<I: NonBlock>(rt: &HostRuntime, io: &mut I, ask: &Ask) -> Result<CallAnswer, Why> {
+    Ok(io.call(&mut request(rt.alloc(), ask)?))
 }
 
-// A read gets these 5 bytes.
-fn gets<I: NonBlock>(rt: &HostRuntime, io: &mut I, h: u64, text: &[u8]) -> Result<bool, Fail> {
-    let mut request = read(rt, h)?;
+// A call, once it doesn't block, ends so, and what it read is this.
+fn until<I: NonBlock>(
+    rt: &HostRuntime,
+    io: &mut I,
+    ask: &Ask,
+    outcome: Outcome,
+    text: &str,
+) -> Result<bool, Fail> {
+    let mut request = request(rt.alloc(), ask)?;
     let answer = made(rt, io, &mut request)?;
-    Ok(is_count(answer, 5) && holds(&request, text))
-}
-
-// A read ends.
-fn ends<I: NonBlock>(rt: &HostRuntime, io: &mut I, h: u64) -> Result<bool, Fail> {
-    let answer = made(rt, io, &mut read(rt, h)?)?;
-    Ok(is_count(answer, 0))
-}
-
-// A read fails with this error.
-fn fails<I: NonBlock>(rt: &HostRuntime, io: &mut I, h: u64, error: u16) -> Result<bool, Fail> {
-    let answer = made(rt, io, &mut read(rt, h)?)?;
-    Ok(is_error(answer, error))
-}
-
-// A text of 5 bytes is sent whole.
-fn sends<I: NonBlock>(rt: &HostRuntime, io: &mut I, h: u64, text: &[u8]) -> Result<bool, Fail> {
-    let fd = SharedFd::new(h);
-    let mut buf = Rent::with_total(rt.alloc(), 8)?;
-    if text.len() <= 8 {
-        buf.store(0, text);
-    }
-    let answer = made(rt, io, &mut Request::Send { fd, buf })?;
-    Ok(is_count(answer, 5))
+    Ok(answer == Done(outcome) && holds(&request, text))
 }
 
 // The first port that is free from this one on: the handle 0 listens there.
-pub(crate) fn listen<I: Sockets>(io: &mut I, first: u16) -> u16 {
+fn listen<I: Sockets>(io: &mut I, first: u16) -> u16 {
     for port in first..first.saturating_add(TRIES) {
         if io.listen(port).is_ok() {
             return port;
@@ -132,22 +205,20 @@ pub(crate) fn listen<I: Sockets>(io: &mut I, first: u16) -> u16 {
     first
 }
 
-// An accept on the handle 0 makes the handle 2.
-fn accepts<I: NonBlock>(rt: &HostRuntime, io: &mut I) -> Result<bool, Fail> {
-    let fd = SharedFd::new(0);
-    let answer = made(rt, io, &mut Request::Accept { fd })?;
-    Ok(matches!(answer, CallAnswer::Done(Outcome::Made(2))))
-}
-
 // The handle 0 listens, 1 dials it, and 2 is the one that an accept makes. Each is registered with its number.
 pub(crate) fn connects<I: Sockets>(rt: &HostRuntime, io: &mut I, first: u16) -> Result<bool, Fail> {
     let port = listen(io, first);
     io.register(0, 0)?;
     io.dial(port)?;
     io.register(1, 1)?;
-    let accepted = accepts(rt, io)?;
+    let accepted = until(rt, io, &Accept(0), Outcome::Made(2), "")?;
     io.register(2, 2)?;
     Ok(accepted)
+}
+
+// A handle is closed.
+fn closes<I: NonBlock>(io: &mut I, h: u64) -> bool {
+    matches!(io.close(h), Count(0))
 }
 
 // A dial is refused: as a whole, or by the error of the first read.
@@ -155,59 +226,21 @@ fn refuses_dial<I: Sockets>(rt: &HostRuntime, io: &mut I, port: u16) -> Result<b
     match io.dial(port) {
         Ok(h) => {
             io.register(h, 1)?;
-            fails(rt, io, h, REFUSED)
+            until(rt, io, &Read(h), Fails(REFUSED), "")
         }
         Err(why) => Ok(why == NonBlockError::Fault(REFUSED)),
     }
 }
 
-// A wait until a handle can be read, or written.
-fn readiness(h: u64, read: bool) -> Request<Rent, VecBuf> {
-    let fd = SharedFd::new(h);
-    Request::PollAdd { fd, read }
-}
-
-// A wait for readiness would block.
-fn is_unready<I: NonBlock>(io: &mut I, h: u64, read: bool) -> bool {
-    matches!(io.call(&mut readiness(h, read)), CallAnswer::WouldBlock)
-}
-
-// A wait for readiness is over.
-fn is_ready<I: NonBlock>(rt: &HostRuntime, io: &mut I, h: u64, read: bool) -> Result<bool, Fail> {
-    let answer = made(rt, io, &mut readiness(h, read))?;
-    Ok(is_count(answer, 0))
-}
-
 // Sends to a peer that doesn't read, until a send would block.
-fn fills<I: NonBlock>(rt: &HostRuntime, io: &mut I, h: u64) -> Result<bool, Fail> {
+fn fills<I: NonBlock>(rt: &HostRuntime, io: &mut I, h: u64) -> Result<bool, Why> {
     for _ in 0..20000 {
-        let fd = SharedFd::new(h);
-        let mut buf = Rent::with_total(rt.alloc(), 65536)?;
-        buf.store(0, &[7; 65536]);
-        if matches!(
-            io.call(&mut Request::Send { fd, buf }),
-            CallAnswer::WouldBlock
-        ) {
+        let mut request = send(h, filled(rt.alloc(), &[7; 65536])?);
+        if matches!(io.call(&mut request), WouldBlock) {
             return Ok(true);
         }
     }
     Ok(false)
-}
-
-// A handle is closed.
-fn closes<I: NonBlock>(io: &mut I, h: u64) -> bool {
-    matches!(io.close(h), Outcome::Count(0))
-}
-
-// A request ends with this error.
-fn refuses<I: NonBlock>(io: &mut I, mut request: Request<Rent, VecBuf>, error: u16) -> bool {
-    is_error(io.call(&mut request), error)
-}
-
-// An accept would block.
-fn accepts_none<I: NonBlock>(io: &mut I, fd: SharedFd) -> bool {
-    let mut request: Request<Rent, VecBuf> = Request::Accept { fd };
-    matches!(io.call(&mut request), CallAnswer::WouldBlock)
 }
 
 // Opens so many sockets at once, each on a port that the system chooses, and closes them. It answers whether all were opened.
@@ -223,101 +256,68 @@ pub(crate) fn opens<I: Sockets>(io: &mut I, count: u64) -> bool {
     end.saturating_sub(first) == count
 }
 
-#[test]
-fn bytes_arrive(rt: HostRuntime) -> Result<(), Fail> {
-    let mut io = MioIo::new(&rt, rt.alloc());
-    assert!(rt; connects(&rt, &mut io, 40017)?);
-    assert!(rt; has_none(&rt, &mut io, 2)?);
-    assert!(rt; sends(&rt, &mut io, 1, b"hello")?);
-    assert!(rt; becomes_readable(&rt, &mut io, 2)?);
-    assert!(rt; gets(&rt, &mut io, 2, b"hello")?);
-    Ok(())
-}
-
-// A read behind one that came short would block until the handle is reported again, also where more is there; then it gets that, or the end.
-// A handle whose reports have another key is read at once.
-#[test]
-fn a_short_read_waits_for_a_report(rt: HostRuntime) -> Result<(), Fail> {
-    let mut io = MioIo::new(&rt, rt.alloc());
-    assert!(rt; connects(&rt, &mut io, 40817)?);
-    assert!(rt; sends(&rt, &mut io, 1, b"hello")? && becomes_readable(&rt, &mut io, 2)?);
-    assert!(rt; gets(&rt, &mut io, 2, b"hello")?);
-    assert!(rt; sends(&rt, &mut io, 1, b"again")? && is_ready(&rt, &mut io, 2, true)?);
-    assert!(rt; has_none(&rt, &mut io, 2)? && becomes_readable(&rt, &mut io, 2)?);
-    assert!(rt; gets(&rt, &mut io, 2, b"again")?);
-    io.register(2, 9)?;
-    assert!(rt; sends(&rt, &mut io, 1, b"other")? && !has_none(&rt, &mut io, 2)?);
-    io.register(2, 2)?;
-    assert!(rt; closes(&mut io, 1) && becomes_readable(&rt, &mut io, 2)?);
-    assert!(rt; ends(&rt, &mut io, 2)? && ends(&rt, &mut io, 2)?);
-    Ok(())
-}
-
-#[test]
-fn a_peer_closes(rt: HostRuntime) -> Result<(), Fail> {
-    let mut io = MioIo::new(&rt, rt.alloc());
-    assert!(rt; connects(&rt, &mut io, 40117)?);
-    assert!(rt; closes(&mut io, 1));
-    assert!(rt; ends(&rt, &mut io, 2)?);
-    assert!(rt; !closes(&mut io, 1) && io.register(1, 1).is_err());
-    assert!(rt; io.count() == 3);
-    Ok(())
-}
-
-// A peer that closes with bytes unread resets the connection.
-#[test]
-fn a_peer_resets(rt: HostRuntime) -> Result<(), Fail> {
-    let mut io = MioIo::new(&rt, rt.alloc());
-    assert!(rt; connects(&rt, &mut io, 40217)?);
-    assert!(rt; sends(&rt, &mut io, 2, b"hello")?);
-    assert!(rt; becomes_readable(&rt, &mut io, 1)?);
-    assert!(rt; closes(&mut io, 1));
-    assert!(rt; fails(&rt, &mut io, 2, RESET)?);
-    Ok(())
-}
-
-#[test]
-fn nothing_is_there(rt: HostRuntime) -> Result<(), Fail> {
-    let mut io = MioIo::new(&rt, rt.alloc());
-    let port = listen(&mut io, 40317);
-    let fd = SharedFd::new(0);
-    assert!(rt; io.listen(port).is_err());
-    assert!(rt; accepts_none(&mut io, fd));
-    assert!(rt; refuses(&mut io, read(&rt, 7)?, INVALID));
-    assert!(rt; refuses(&mut io, Request::Connect { fd, addr: 0 }, UNSUPPORTED));
-    assert!(rt; !io.is_file(0));
-    Ok(())
-}
-
-// A wait for readiness goes through where an accept, a read or a write would, and blocks where that would.
-#[test]
-fn readiness_is_looked_up(rt: HostRuntime) -> Result<(), Fail> {
-    let mut io = MioIo::new(&rt, rt.alloc());
-    assert!(rt; connects(&rt, &mut io, 40717)?);
-    assert!(rt; is_unready(&mut io, 0, true) && is_unready(&mut io, 2, true));
-    assert!(rt; is_ready(&rt, &mut io, 1, false)? && fills(&rt, &mut io, 1)?);
-    assert!(rt; is_unready(&mut io, 1, false) && is_ready(&rt, &mut io, 2, true)?);
-    assert!(rt; refuses(&mut io, readiness(9, true), INVALID));
-    Ok(())
-}
-
-// A dial of a port where nobody listens is a fault, or a read of its handle fails. The system chooses no such port for the handle itself.
-#[test]
-fn a_dial_is_refused(rt: HostRuntime) -> Result<(), Fail> {
-    let mut io = MioIo::new(&rt, rt.alloc());
-    let port = listen(&mut io, 20017);
-    assert!(rt; closes(&mut io, 0));
-    assert!(rt; refuses_dial(&rt, &mut io, port)?);
-    Ok(())
-}
-
-// More sockets are opened in all than a process may have open at once, where that is fewer than 25,000.
-#[test]
-fn closed_sockets_make_room(rt: HostRuntime) -> Result<(), Fail> {
-    let mut io = MioIo::new(&rt, rt.alloc());
-    for _ in 0..250 {
-        assert!(rt; opens(&mut io, 100));
+// The same so many times.
+fn opens_all<I: Sockets>(io: &mut I, times: u32, count: u64) -> bool {
+    for _ in 0..times {
+        if !opens(io, count) {
+            return false;
+        }
     }
-    assert!(rt; io.open_handles() == 0);
+    true
+}
+
+// Makes a step, and answers whether it is as it says.
+fn make_step<I: Sockets + Opens>(
+    rt: &HostRuntime,
+    io: &mut I,
+    first: u16,
+    step: &Step,
+) -> Result<bool, Fail> {
+    match step {
+        Step::Connect => connects(rt, io, first),
+        Step::Taken => {
+            let port = listen(io, first);
+            Ok(io.listen(port).is_err())
+        }
+        Step::Nobody => {
+            let port = listen(io, first);
+            Ok(closes(io, 0) && refuses_dial(rt, io, port)?)
+        }
+        Step::Once(ask, want) => Ok(once(rt, io, ask)? == *want),
+        Step::Goes(ask) => Ok(once(rt, io, ask)? != WouldBlock),
+        Step::Until(ask, outcome, text) => until(rt, io, ask, *outcome, text),
+        Step::Readable(key) => becomes_readable(rt, io, *key),
+        Step::Register(h, key, done) => Ok(io.register(*h, *key).is_ok() == *done),
+        Step::Close(h, done) => Ok(closes(io, *h) == *done),
+        Step::Made(count) => Ok(io.count() == *count),
+        Step::File(h, file) => Ok(io.is_file(*h) == *file),
+        Step::Fills(h) => Ok(fills(rt, io, *h)?),
+        Step::Opens(times, count) => Ok(opens_all(io, *times, *count)),
+        Step::Opened(count) => Ok(io.opened() == *count),
+    }
+}
+
+// Makes steps in order. It answers the place of the first one that isn't as it says; None: each is.
+fn run<I: Sockets + Opens>(
+    rt: &HostRuntime,
+    io: &mut I,
+    first: u16,
+    steps: &[Step],
+) -> Result<Option<usize>, Fail> {
+    for i in 0..steps.len() {
+        if !make_step(rt, io, first, &steps[i])? {
+            return Ok(Some(i));
+        }
+    }
+    Ok(None)
+}
+
+#[test]
+fn sockets_are_called(rt: HostRuntime) -> Result<(), Fail> {
+    for i in 0..ROWS.len() {
+        let (name, first, steps) = &ROWS[i];
+        let unlike = run(&rt, &mut MioIo::new(&rt, rt.alloc()), *first, steps)?;
+        assert_eq!(rt; unlike, None, "in the row {name:?}");
+    }
     Ok(())
 }

@@ -2,25 +2,22 @@
 // named by its place, 0 or 1.
 use driver_core::{Done, Turned};
 use ready_driver::{NonBlockError, Ready};
-use rent_buf::{OutOfMemory, Rent, VecBuf};
+use rent_buf::{IoBufMut as _, OutOfMemory, Rent, VecBuf};
 use ring_core::{Outcome, Request, SharedFd};
-use thiserror::Error;
+use std::alloc::Global;
 use wake_core::Woken;
 
 /// A request with a buffer of a stated total.
 pub(crate) type Asked = Request<Rent, VecBuf>;
 
 /// Why a test can't go on.
-#[derive(Clone, Copy, Debug, PartialEq, Eq, Error)]
+#[derive(Drop, Debug, PartialEq)]
 pub(crate) enum Why {
     /// Memory ran out.
-    #[error("OutOfMemory")]
     OutOfMemory,
     /// The condition of a call isn't met.
-    #[error("Unmet")]
     Unmet,
     /// What a call answered isn't what it answers in a test.
-    #[error("Unlike")]
     Unlike,
 }
 
@@ -59,11 +56,8 @@ pub(crate) trait Stage {
     /// A turn.
     fn turn(&mut self) -> Turned;
 
-    /// A park with a limit of a millisecond. Its turn doesn't stop.
-    fn park(&mut self) -> Result<(), Why>;
-
-    /// A park without a limit, and what it drained. Its turn doesn't stop.
-    fn park_on(&mut self) -> Result<Woken, Why>;
+    /// A park with a limit in milliseconds or without one, and what it drained. Its turn doesn't stop.
+    fn park(&mut self, limit: Option<u64>) -> Result<Woken, Why>;
 
     /// Whether the user holds a handle, it is known, and a request may name it.
     fn handle(&self, h: u64) -> (bool, bool, bool);
@@ -98,7 +92,7 @@ pub(crate) fn finish<S: Stage>(stage: &mut S, place: usize) -> Result<Done<Rent>
         if let Some(done) = stage.poll(place, 0)? {
             return Ok(done);
         }
-        stage.park()?;
+        stage.park(Some(1))?;
     }
     Err(Why::Unlike)
 }
@@ -113,6 +107,13 @@ pub(crate) fn run<S: Stage>(stage: &mut S, request: Asked) -> Result<Done<Rent>,
 pub(crate) fn pends<S: Stage>(stage: &mut S, place: usize, request: Asked) -> Result<(), Why> {
     stage.submit(place, request)?;
     is_like(stage.poll(place, 0)?.is_none())
+}
+
+/// A buffer that is full of these bytes.
+pub(crate) fn filled(alloc: Global, bytes: &[u8]) -> Result<Rent, Why> {
+    let mut buf = Rent::with_total(alloc, bytes.len())?;
+    buf.store(0, bytes);
+    Ok(buf)
 }
 
 /// A send of all bytes of a buffer.

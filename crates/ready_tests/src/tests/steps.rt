@@ -8,7 +8,6 @@ use std::alloc::Global;
 use std::process::Abort;
 
 /// One step, and what it is to answer.
-#[derive(Clone, Copy)]
 pub(crate) enum Step {
     /// A new stream has this number.
     Stream(u64),
@@ -64,27 +63,27 @@ fn wakes(turned: &Turned, woken: &[u64]) -> bool {
 }
 
 // Makes a step. `Unlike` comes where it answers otherwise than it says.
-fn make_step<S: Stage + InMemory>(stage: &mut S, alloc: Global, step: Step) -> Result<(), Why> {
+fn make_step<S: Stage + InMemory>(stage: &mut S, alloc: Global, step: &Step) -> Result<(), Why> {
     match step {
-        Step::Stream(h) => is_like(stage.stream()? == h),
-        Step::Feed(h, bytes) => stage.feed(h, bytes.as_bytes()),
-        Step::Read(h) => reads(stage, alloc, h),
-        Step::Pends(task) => is_like(stage.poll(0, task)?.is_none()),
-        Step::Ends(outcome, bytes) => ends(stage, outcome, bytes),
+        Step::Stream(h) => is_like(stage.stream()? == *h),
+        Step::Feed(h, bytes) => stage.feed(*h, bytes.as_bytes()),
+        Step::Read(h) => reads(stage, alloc, *h),
+        Step::Pends(task) => is_like(stage.poll(0, *task)?.is_none()),
+        Step::Ends(outcome, bytes) => ends(stage, *outcome, bytes),
         Step::Cancel => stage.cancel(0),
         Step::Drop => stage.drop_op(0),
         Step::Turn(woken) => is_like(wakes(&stage.turn(), woken)),
-        Step::Release(h) => stage.release(h),
-        Step::Handle(h, held, known, named) => is_like(stage.handle(h) == (held, known, named)),
-        Step::Bits(h, bit) => is_like(stage.bits(h) == bit.ready()),
-        Step::Live(count) => is_like(stage.left().0 == count),
+        Step::Release(h) => stage.release(*h),
+        Step::Handle(h, held, known, named) => is_like(stage.handle(*h) == (*held, *known, *named)),
+        Step::Bits(h, bit) => is_like(stage.bits(*h) == bit.ready()),
+        Step::Live(count) => is_like(stage.left().0 == *count),
     }
 }
 
 // Makes steps in order. It answers the place of the first one that isn't as it says, and why; None: each is.
 fn run<S: Stage + InMemory>(stage: &mut S, alloc: Global, steps: &[Step]) -> Option<(usize, Why)> {
     for i in 0..steps.len() {
-        if let Err(why) = make_step(stage, alloc, steps[i]) {
+        if let Err(why) = make_step(stage, alloc, &steps[i]) {
             return Some((i, why));
         }
     }
@@ -96,7 +95,7 @@ pub(crate) fn run_row<S: Stage + InMemory>(
     rt: &impl Abort,
     stage: &mut S,
     alloc: Global,
-    (name, steps): (&str, &[Step]),
+    (name, steps): &(&str, &[Step]),
 ) {
     assert_eq!(rt; run(stage, alloc, steps), None, "in the row {name:?}");
 }

@@ -2,74 +2,10 @@
 use crate::tests::named::{Bit, union};
 use ready_driver::{Direction, Ready, ScheduledIo, Waiter};
 use rent_buf::{NumList, OutOfMemory};
+use std::alloc::Global;
 use std::process::Abort;
 
-// Bits that somebody waits for.
-trait Waits {
-    // The bits of a direction, or None: then the operation waits with this task.
-    fn poll(
-        &mut self,
-        serial: u64,
-        task: u64,
-        dir: Direction,
-    ) -> Result<Option<Ready>, OutOfMemory>;
-
-    // The tasks that these bits wake.
-    fn wake(&mut self, ready: Ready) -> NumList;
-
-    // Adds bits.
-    fn set(&mut self, ready: Ready);
-
-    // Takes the bits of a direction away.
-    fn clear(&mut self, dir: Direction);
-
-    // The bits.
-    fn bits(&self) -> Ready;
-
-    // An operation waits no longer: the task that waited.
-    fn forget(&mut self, serial: u64) -> Option<u64>;
-
-    // What an operation waits with.
-    fn waiter(&self, serial: u64) -> Option<Waiter>;
-}
-
-impl Waits for ScheduledIo {
-    fn poll(
-        &mut self,
-        serial: u64,
-        task: u64,
-        dir: Direction,
-    ) -> Result<Option<Ready>, OutOfMemory> {
-        self.poll_readiness(serial, task, dir)
-    }
-
-    fn wake(&mut self, ready: Ready) -> NumList {
-        ScheduledIo::wake(self, ready)
-    }
-
-    fn set(&mut self, ready: Ready) {
-        self.set_readiness(ready);
-    }
-
-    fn clear(&mut self, dir: Direction) {
-        self.clear_readiness(dir.mask());
-    }
-
-    fn bits(&self) -> Ready {
-        self.readiness()
-    }
-
-    fn forget(&mut self, serial: u64) -> Option<u64> {
-        ScheduledIo::forget(self, serial)
-    }
-
-    fn waiter(&self, serial: u64) -> Option<Waiter> {
-        ScheduledIo::waiter(self, serial)
-    }
-}
-
 // One step, and what it is to answer. Bits are those of a list together.
-#[derive(Clone, Copy)]
 enum Step {
     // An operation is polled with a task, in a direction.
     Poll(u64, u64, Direction, Option<Bit>),
@@ -135,62 +71,73 @@ const ROWS: &[(&str, &[Step])] = &[
 ];
 
 // The bits that a poll answers.
-fn ready_of(bit: Option<Bit>) -> Option<Ready> {
+fn ready_of(bit: &Option<Bit>) -> Option<Ready> {
     match bit {
         Some(bit) => Some(bit.ready()),
         None => None,
     }
 }
 
-// Adds bits, which answers nothing.
-fn sets<W: Waits>(io: &mut W, bits: &[Bit]) -> bool {
-    io.set(union(bits));
-    true
+// Two answers are the same.
+fn is_same<T: PartialEq>(answer: &T, want: &T) -> bool {
+    answer == want
 }
 
-// Takes the bits of a direction away, which answers nothing.
-fn clears<W: Waits>(io: &mut W, dir: Direction) -> bool {
-    io.clear(dir);
-    true
+// The tasks that were woken are these.
+fn are_tasks(woken: &NumList, tasks: &[u64]) -> bool {
+    woken.as_slice() == tasks
 }
 
 // Makes a step, and answers whether it is as it says.
-fn make_step<W: Waits>(io: &mut W, step: Step) -> Result<bool, OutOfMemory> {
+fn make_step(io: &mut ScheduledIo, step: &Step) -> Result<bool, OutOfMemory> {
     match step {
-        Poll(serial, task, dir, want) => Ok(io.poll(serial, task, dir)? == ready_of(want)),
-        Wake(bits, tasks) => Ok(io.wake(union(bits)).as_slice() == tasks),
-        Set(bits) => Ok(sets(io, bits)),
-        Clear(dir) => Ok(clears(io, dir)),
-        Bits(want) => Ok(io.bits() == want.ready()),
-        Forget(serial, want) => Ok(io.forget(serial) == want),
-        Waiting(serial, want) => Ok(io.waiter(serial) == want),
+        Poll(serial, task, dir, want) => {
+            let ready = io.poll_readiness(*serial, *task, *dir)?;
+            Ok(is_same(&ready, &ready_of(want)))
+        }
+        Wake(bits, tasks) => Ok(are_tasks(&io.wake(union(bits)), tasks)),
+        Set(bits) => {
+            io.set_readiness(union(bits));
+            Ok(true)
+        }
+        Clear(dir) => {
+            io.clear_readiness(dir.mask());
+            Ok(true)
+        }
+        Bits(want) => Ok(is_same(&io.readiness(), &want.ready())),
+        Forget(serial, want) => Ok(is_same(&io.forget(*serial), want)),
+        Waiting(serial, want) => Ok(is_same(&io.waiter(*serial), want)),
     }
 }
 
 // Makes steps in order. It answers the place of the first one that isn't as it says; None: each is.
-fn run<W: Waits>(io: &mut W, steps: &[Step]) -> Result<Option<usize>, OutOfMemory> {
+fn run(io: &mut ScheduledIo, steps: &[Step]) -> Result<Option<usize>, OutOfMemory> {
     for i in 0..steps.len() {
-        if !make_step(io, steps[i])? {
+        if !make_step(io, &steps[i])? {
             return Ok(Some(i));
         }
     }
     Ok(None)
 }
 
-// Makes the steps of a row, each of which is as it says.
-fn run_row<W: Waits>(
+// Makes the steps of a row on new bits, each of which is as it says.
+fn run_row(
     rt: &impl Abort,
-    io: &mut W,
-    (name, steps): (&str, &[Step]),
+    alloc: Global,
+    (name, steps): &(&str, &[Step]),
 ) -> Result<(), OutOfMemory> {
-    assert_eq!(rt; run(io, steps)?, None, "in the row {name:?}");
+    assert_eq!(rt;
+        run(&mut ScheduledIo::new(alloc), steps)?,
+        None,
+        "in the row {name:?}"
+    );
     Ok(())
 }
 
 #[test]
 fn operations_wait_for_bits(rt: HostRuntime) -> Result<(), OutOfMemory> {
     for i in 0..ROWS.len() {
-        run_row(&rt, &mut ScheduledIo::new(rt.alloc()), ROWS[i])?;
+        run_row(&rt, rt.alloc(), &ROWS[i])?;
     }
     Ok(())
 }

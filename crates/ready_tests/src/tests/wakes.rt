@@ -1,9 +1,8 @@
 // Sends of eight threads that end parks without a limit, over sockets that are silent or busy: no wake-up is lost.
 use crate::tests::bench::{Bench, Opens};
 use crate::tests::sockets::connects;
-use crate::tests::stage::{Stage, Why, is_like, moved, receive, send};
+use crate::tests::stage::{Stage, Why, filled, is_like, moved, receive, send};
 use ready_driver::Sockets;
-use rent_buf::{IoBufMut as _, Rent};
 use socket_io::MioIo;
 use std::alloc::Global;
 use std::sync::Wait;
@@ -136,7 +135,7 @@ fn park_all<S: Stage>(stage: &mut S, meeting: &Meeting, busy: bool) -> Result<()
         if busy {
             place = bounce(stage, place)?;
         }
-        let woken = stage.park_on()?;
+        let woken = stage.park(None)?;
         left = left.saturating_sub(note(meeting, &woken.first));
         left = left.saturating_sub(note(meeting, &woken.again));
     }
@@ -147,9 +146,7 @@ fn park_all<S: Stage>(stage: &mut S, meeting: &Meeting, busy: bool) -> Result<()
 fn first_byte<S: Stage>(stage: &mut S, alloc: Global) -> Result<(), Why> {
     stage.adopt(1)?;
     stage.adopt(2)?;
-    let mut buf = Rent::with_total(alloc, 1)?;
-    buf.store(0, &[7]);
-    stage.submit(0, send(1, buf))
+    stage.submit(0, send(1, filled(alloc, &[7])?))
 }
 
 impl Sends for Meeting {
@@ -187,7 +184,7 @@ impl<'a, 'b, I: Sockets + Opens, R: Wait + Clock> Parks for Drives<'a, 'b, I, R>
             busy,
             meeting,
         } = self;
-        let mut bench = Bench::new(alloc, io, &mut sleeper, rt)?;
+        let mut bench = Bench::new(alloc, io, &mut sleeper, rt);
         first_byte(&mut bench, alloc)?;
         park_all(&mut bench, meeting, busy)
     }
