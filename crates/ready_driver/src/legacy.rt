@@ -126,6 +126,14 @@ impl<I: NonBlock, B: IoBufMut + Drop> LegacyDriver<I, B> {
         if self.ops.len() > 0 {
             return Err(self);
         }
+        Ok(self.into_io())
+    }
+
+    /// Ends the driver as a drop of it does, and returns its object: operations that have a slot are gone, with what they hold, and no handle
+    /// is closed. It takes no memory. (not in monoio)
+    pub fn into_io(self) -> I
+        ensures { result ≡ self.handling.io }
+    {
         let LegacyDriver {
             registry,
             ops: _ops,
@@ -135,7 +143,7 @@ impl<I: NonBlock, B: IoBufMut + Drop> LegacyDriver<I, B> {
             lively: _lively,
             alloc: _alloc,
         } = self;
-        Ok(registry.into_io())
+        registry.into_io()
     }
 
     /// The object. (not in monoio)

@@ -1,5 +1,5 @@
 -- Connections that have no handle in common, and what is on its way beside another.
-use Rattle.std.proofs.Common.{ℕ, ◌≡◌, ◌≢◌, ◌∙◌, ap, sym, refl, subst, arith, Bool, IsTrue, List, [], ◌++◌}
+use Rattle.std.proofs.Common.{ℕ, ◌≡◌, ◌≢◌, ◌∙◌, ap, sym, refl, subst, Bool, IsTrue, List, ◌++◌}
 use Rattle.std.proofs.Common.{Option, Some, None, inl, inr}
 use Rattle.std.specs.Prelude.{◌⊎◌}
 use Rattle.rent_buf.specs.Buffer.{Buffer}
@@ -17,7 +17,6 @@ use Rattle.relay_net.specs.Keeping.{KeepsOps}
 use Rattle.relay_net.specs.Relay.{AreBeside, IsAccept, IsApartFrom}
 use Rattle.relay_net.specs.declared.connection.Connection.{Connection}
 use Rattle.relay_net.specs.declared.flow.Flow.{Flow}
-use Rattle.relay_net.specs.declared.round.RelayError.TheVariants as why
 use Rattle.relay_net.proofs.Connections.{receive_else, send_else, stage_kept}
 
 -- A receive or a send at a handle that is neither of two is none of either direction between them.

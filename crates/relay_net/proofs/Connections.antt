@@ -66,7 +66,7 @@ stage_kept old new Q x y (stage.Idle spare) keeps receives sends fits = (tt, ref
 stage_kept old new Q x y (stage.Receiving op) keeps receives sends fits =
     let same = keeps op fits.holds (asked_as (asked_at old op) (IsReceive x) Q receives fits.asks) in
     (pending_kept old new op (IsReceive x) same fits, refl)
-stage_kept old new Q x y (stage.Held buf) keeps receives sends fits = (tt, refl)
+stage_kept old new Q x y (stage.Held buf) keeps receives sends fits = (fits, refl)
 stage_kept old new Q x y (stage.Sending op count) keeps receives sends fits =
     let same = keeps op fits.holds (asked_as (asked_at old op) (IsSend y count) Q (sends count) fits.asks) in
     (pending_kept old new op (IsSend y count) same fits, ap (λ slot. bytes_sent (plain_in slot)) same)

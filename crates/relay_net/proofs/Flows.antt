@@ -12,10 +12,8 @@ use Rattle.ring_core.specs.declared.request.Request.{Request}
 use Rattle.ring_core.specs.declared.request.Request.TheVariants.{Recv, Send}
 use Rattle.ring_core.specs.declared.world.HandleState.{HandleState}
 use Rattle.ring_core.specs.World.{input_at}
-use Rattle.std.specs.FinMap as map
 use Rattle.driver_core.specs.Ops.{Ops}
 use Rattle.driver_core.specs.Slot.{serial_of}
-use Rattle.driver_core.specs.declared.op.Done.{Done as Ended}
 use Rattle.driver_core.specs.declared.op.Op.{Op}
 use Rattle.driver_core.specs.declared.op.SubmitFault.{SubmitFault}
 use Rattle.driver_core.specs.declared.op.SubmitFault.TheVariants as submit
@@ -25,7 +23,8 @@ use Rattle.ready_driver.specs.LegacyState.{LegacyState, ops_in}
 use Rattle.ready_driver.specs.Registry.{Handling}
 use Rattle.net_stream.specs.Told.{IsSentTo, IsStream, IsTaken, output_at}
 use Rattle.net_stream.proofs.Handles.{sent_waiting, taken_sent}
-use Rattle.relay_net.specs.Flow.{FitsStage, IfAsked, IsElse, IsPending, IsReceive, IsSend, asked_at, bytes_sent, empty_buffer, held_in}
+use Rattle.relay_net.specs.Flow.{asked_at, bytes_sent, empty_buffer, FitsStage, held_in, IfAsked, IsElse, IsLoad, IsPending, IsReceive}
+use Rattle.relay_net.specs.Flow.{IsSend}
 use Rattle.relay_net.specs.Flow.{line}
 use Rattle.relay_net.specs.Flow.{send_bytes}
 use Rattle.relay_net.specs.Keeping.{AnyRequest, CameFor, HasEnded, LeavesFlow, MovesBetween, Stays, StopsAs, StopsFor, world_of}
@@ -56,13 +55,13 @@ send_apart from to count request is else = (subst (IsElse from to) is.request_is
 pub just_fits : (ops : Ops Buf) (from to : ℕ) (s : Stage) (bytes : List ℕ) → HoldsJust s bytes → FitsStage ops from to s
 just_fits ops from to (stage.Idle spare) bytes is = tt
 just_fits ops from to (stage.Receiving op) bytes is = absurd is
-just_fits ops from to (stage.Held buf) bytes is = tt
+just_fits ops from to (stage.Held buf) bytes is = subst (λ bs. IsLoad (length bs)) (sym is.0) is.1
 just_fits ops from to (stage.Sending op count) bytes is = absurd is
 
 pub just_holds : (ops : Ops Buf) (s : Stage) (bytes : List ℕ) → HoldsJust s bytes → held_in ops s ≡ bytes
 just_holds ops (stage.Idle spare) bytes is = sym is
 just_holds ops (stage.Receiving op) bytes is = absurd is
-just_holds ops (stage.Held buf) bytes is = is
+just_holds ops (stage.Held buf) bytes is = is.0
 just_holds ops (stage.Sending op count) bytes is = absurd is
 
 -- What a receive brought goes behind what is held: the line is what it was.
@@ -175,11 +174,11 @@ pub pending_receive : (ops : Ops Buf) (op : Op) (from : ℕ) (buf : Buf) → bui
 pending_receive ops op from buf is pending =
     pending_as ops op (λ asked. asked ≡ Recv from (built buf)) (IsReceive from) (λ request same. same ∙ ap (Recv from) is) pending
 
-pub pending_send : (ops : Ops Buf) (op : Op) (to count : ℕ) (buf : Buf) → length (content_of buf) ≡ count
+pub pending_send : (ops : Ops Buf) (op : Op) (to count : ℕ) (buf : Buf) → length (content_of buf) ≡ count → IsLoad count
     → IsPending ops op (λ asked. asked ≡ Send to (built buf)) → IsPending ops op (IsSend to count)
-pending_send ops op to count buf is pending =
+pending_send ops op to count buf is load pending =
     pending_as ops op (λ asked. asked ≡ Send to (built buf)) (IsSend to count)
-    (λ request same. record { buf = built buf; request_is = same; count_is = is }) pending
+    (λ request same. record { buf = built buf; request_is = same; count_is = is; load = load }) pending
 
 -- The bytes that a pending send has.
 pub pending_bytes : (ops : Ops Buf) (op : Op) (to : ℕ) (buf : Buf) → IsPending ops op (λ asked. asked ≡ Send to (built buf))
@@ -267,8 +266,8 @@ pub brings_flow : (old new : IoView) (tells : Bool) (from to : ℕ) (outcome : O
     → Brings old new tells from outcome bytes → ReceivedAs outcome bytes s c
     → (held : List ℕ) × (HoldsJust s held × (IsTrue tells → line new.world from to held ≡ line old.world from to [])
     × (IsTrue tells → MovesBetween old.world from to new.world) × CameFor old new c × (IsTrue tells → EndsAt new.world from c))
-brings_flow old new tells from to (Count k) bytes s c brings is = counts_flow old new tells from to k bytes s c brings.0 brings.1 is
-brings_flow old new tells from to (From k addr) bytes s c brings is = counts_flow old new tells from to k bytes s c brings.0 brings.1 is
+brings_flow old new tells from to (Count k) bytes s c brings is = counts_flow old new tells from to k bytes s c brings.0 brings.2 is
+brings_flow old new tells from to (From k addr) bytes s c brings is = counts_flow old new tells from to k bytes s c brings.0 brings.2 is
 brings_flow old new tells from to (Made h) bytes s c brings is = absurd brings
 brings_flow old new tells from to (Fail error) bytes s c brings is = (
   [],

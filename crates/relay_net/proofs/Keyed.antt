@@ -36,9 +36,12 @@ use Rattle.driver_core.proofs.Maps.{gone-other, gone-same, put-other}
 use Rattle.ready_driver.specs.Calling.{Called}
 use Rattle.ready_driver.specs.Dialing.{IsOpened, IsUnopened}
 use Rattle.ready_driver.specs.Io.{EndsFor, IoView, IsWaited, made_after}
+use Rattle.ready_driver.specs.Legacy.{Legacy}
 use Rattle.ready_driver.specs.LegacyPolls.{HandsOver, outcome_for, outcome_if}
+use Rattle.ready_driver.specs.LegacyStands.{LegacyStands}
 use Rattle.ready_driver.specs.LegacyState.{LegacyState, holds_all, ops_in}
 use Rattle.ready_driver.specs.LegacyTurns.{LegacyTurns, TurnsBy, turning_in}
+use Rattle.ready_driver.specs.MemIo.{Memory, memory_view}
 use Rattle.ready_driver.specs.Records.{Kept, changed, is_registered, with_registered}
 use Rattle.ready_driver.specs.Registry.{AreKeyed, GivesUser, Handling, LetsGo, MakesReady, TriesFor, is_known, is_old}
 use Rattle.ready_driver.specs.Registry.{keyed_each, keyed_unless, unheld_if, without_keys}
@@ -55,6 +58,14 @@ use Rattle.relay_net.specs.declared.connection.Connection.{Connection}
 use Rattle.relay_net.proofs.Calls.{Lawful}
 use Rattle.relay_net.proofs.Listens.{users_known}
 use Rattle.relay_net.proofs.Polls.{Ends, Waits, pending_waits, ready_ends, starved_waits}
+
+-- A driver over handles in memory that stands as plain data has its keys. So each one has that was made new and called.
+pub stands_keys : (driver : LegacyState Memory Buf) (D : Legacy) → LegacyStands memory_view built driver D
+    → HasKeys memory_view driver.handling
+stands_keys driver D stands = record {
+  keyed = stands.handles.keyed;
+  sized = stands.handles.sized ∙ ap length (sym stands.parts.handles);
+}
 
 -- Where nothing is called all stays.
 pub keeps_none : {I : Type 0} (view : I → IoView) (memory : Bool) (driver : LegacyState I Buf) → KeepsKeys view memory driver driver
@@ -79,10 +90,12 @@ key_again table keys h all k known = elim (same-or-not k h) [
   | inr e ↦ get-amended-other (λ old. Some h) keys h k e ∙ all k known
 ]
 
+-- So does one that is written only if the handle has none.
 key_unless : (table : Table) (keys : List (Option ℕ)) (h : ℕ) (is : Bool) → AreKeyed table keys → AreKeyed table (keyed_unless is keys h)
 key_unless table keys h true all = all
 key_unless table keys h false all = key_again table keys h all
 
+-- It makes no key.
 unless_length : (keys : List (Option ℕ)) (h : ℕ) (is : Bool) → length (keyed_unless is keys h) ≡ length keys
 unless_length keys h true = refl
 unless_length keys h false = length-amended (λ old. Some h) keys h
@@ -95,6 +108,7 @@ each_keyed table (h ∷ handles) records keys all =
     each_keyed table handles (changed records h (with_registered true)) (keyed_unless (is_registered records h) keys h)
     (key_unless table keys h (is_registered records h) all)
 
+-- Nor do several.
 each_length : (handles : List ℕ) (records : Kept) (keys : List (Option ℕ)) → length (keyed_each records keys handles) ≡ length keys
 each_length [] records keys = refl
 each_length (h ∷ handles) records keys =
@@ -121,6 +135,7 @@ left_held table h some = by-found (map.get table.holders h) refl
         absurd cc
     by-found (Some holders) is = ap is_some is
 
+-- So was one of which a holder is left, once the user gave it up.
 released_held : (table : Table) (h : ℕ) → is_nobody (without_user (holders_at table h)) ≡ false → is_known table h ≡ true
 released_held table h some = by-found (map.get table.holders h) refl
   where
@@ -148,11 +163,13 @@ settled_keyed table keys h held true there all k known = elim (same-or-not k h) 
 ]
 settled_keyed table keys h held false there all k known = all k (sym (keys-kept table.holders h held (there refl) k) ∙ known)
 
+-- The keys go one after another.
 front_keyed : (table : Table) (keys : List (Option ℕ)) (h : ℕ) (rest : List ℕ) (b : Bool)
     → AreKeyed table (without_keys (keys_if b keys h) rest) → AreKeyed table (without_keys keys (front_if b h rest))
 front_keyed table keys h rest true all = all
 front_keyed table keys h rest false all = all
 
+-- That of a handle goes if nobody holds it.
 unheld_keyed : (table : Table) (keys : List (Option ℕ)) (h : ℕ) (b : Bool) → AreKeyed table (keys_if b keys h)
     → AreKeyed table (without_keys keys (unheld_if b h))
 unheld_keyed table keys h true all = all
@@ -168,6 +185,7 @@ left_keyed (h ∷ handles) table keys all =
     (left_keyed handles next (keys_if (is_nobody (left_holders table h)) keys h)
     (settled_keyed table keys h (left_holders table h) (is_nobody (left_holders table h)) (left_held table h) all))
 
+-- A key that goes leaves its place.
 without_length : (handles : List ℕ) (keys : List (Option ℕ)) → length (without_keys keys handles) ≡ length keys
 without_length [] keys = refl
 without_length (h ∷ handles) keys = without_length handles (with_key keys h None) ∙ length-amended (λ old. None) keys h
@@ -179,13 +197,16 @@ appended_keyed table keys all k known = elim (joined-cases keys None k) [
   | inr e ↦ e.1 ∙ all k known
 ]
 
+-- So it is of each handle that a call may have made.
 made_keyed : (table : Table) (keys : List (Option ℕ)) (made : Option ℕ) → AreKeyed table keys → AreKeyed table (with_made_key made keys)
 made_keyed table keys None all = all
 made_keyed table keys (Some h) all = appended_keyed table keys all
 
+-- Its key is one more.
 appended_length : (keys : List (Option ℕ)) (made : ℕ) → length keys ≡ made → length (keys ++ None ∷ []) ≡ suc made
 appended_length keys made size = let more = length-append keys (None ∷ []) in omega (arith, more, size)
 
+-- So are as many keys as handles behind a call.
 made_length : (keys : List (Option ℕ)) (made : ℕ) (outcome : Outcome) → length keys ≡ made
     → length (with_made_key (made_by outcome) keys) ≡ made_after outcome made
 made_length keys made (Count k) size = size
@@ -255,6 +276,7 @@ module _ {I : Type 0} (view : I → IoView) where
         }
         by-taken false tries = absurd (tries.1 memory_is)
 
+    -- What an operation made becomes its user's, and is registered.
     hands_keys : (old new : Handling I) (made : Option ℕ) → HandsOver view tells memory old made new
         → ((h : ℕ) → made ≡ Some h → slice_get (view old.io).keys h ≡ Some None) → IsTrue memory → HasKeys view old → HasKeys view new
     hands_keys old new None hands place memory_is has = subst (HasKeys view) (sym hands) has
@@ -286,6 +308,7 @@ module _ {I : Type 0} (view : I → IoView) where
           });
     }
 
+    -- So does one that is refused.
     pub refused_keys : (old new : LegacyState I Buf) (request : Request Buf Parts) (refused : SubmitError Buf)
         → LegacySubmits view tells memory old new request (Err refused) → KeepsKeys view memory old new
     refused_keys old new request refused refuses = record {
@@ -326,6 +349,7 @@ module _ {I : Type 0} (view : I → IoView) where
     waited_keys old new waited table memory_is has =
         same_keys old new (ap (λ t. t.holders) table) (waited.keys_are memory_is) waited.made has
 
+    -- A turn.
     pub turned_keys : (reporting : Bool) (old new : LegacyState I Buf) (turned : Turned)
         → LegacyTurns view tells reporting memory old new turned → KeepsKeys view memory old new
     turned_keys reporting old new turned turns = record { keys = λ memory_is has. by-stop turned.stop turns.does memory_is has }
@@ -360,6 +384,7 @@ module _ {I : Type 0} (view : I → IoView) where
           });
     }
 
+    -- So does one that failed.
     pub unopened_keys : (old new : LegacyState I Buf) (why : NonBlockError)
         → IsUnopened view tells memory old.handling new.handling why → KeepsKeys view memory old new
     unopened_keys old new why unopened = record {
@@ -375,12 +400,14 @@ module _ {I : Type 0} (view : I → IoView) where
         keys = λ memory_is has. same_keys old.handling new.handling waits.holders (waits.keys memory_is) waits.made has;
       }
 
+      -- A poll that is pending, or for which memory ran out.
       pub pending_keys : (old new : LegacyState I Buf) (op back : Op) (answer : PollOp Buf) (task : ℕ) → answer ≡ Pending back
           → LegacyPolls files built called view tells memory old new op task (Ok answer) → KeepsKeys view memory old new
       pending_keys old new op back answer task is polls =
           waits_keys old new op (pending_waits view tells memory files called law old new op back task
           (subst (λ a. LegacyPolls files built called view tells memory old new op task (Ok a)) is polls))
 
+      -- The latter.
       pub starved_keys : (old new : LegacyState I Buf) (op : Op) (error : NoMemory × Op) (task : ℕ)
           → LegacyPolls files built called view tells memory old new op task (Err error) → KeepsKeys view memory old new
       starved_keys old new op error task polls =
@@ -422,6 +449,7 @@ module _ {I : Type 0} (view : I → IoView) where
           (subst (λ r. EndsFor r (plain_request built done.request) ends.call) request ends.made.ends)).0 in
           absurd cc)
 
+      -- A poll that returned a send.
       pub sent_keys : (old new : LegacyState I Buf) (op : Op) (answer : PollOp Buf) (done : Ended Buf) (task to count : ℕ)
           → answer ≡ Ready done → LegacyPolls files built called view tells memory old new op task (Ok answer)
           → IsPending (ops_in old) op (IsSend to count) → KeepsKeys view memory old new

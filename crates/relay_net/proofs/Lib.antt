@@ -3,6 +3,7 @@ pub mod Calls
 pub mod Connections
 pub mod Feeds
 pub mod Flows
+pub mod Forwarding
 pub mod Keyed
 pub mod Listens
 pub mod Marks
@@ -14,3 +15,6 @@ pub mod Outcomes
 pub mod Places
 pub mod Polls
 pub mod Relays
+pub mod Rounds
+pub mod Seeing
+pub mod Showing

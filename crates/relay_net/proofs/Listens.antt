@@ -43,6 +43,7 @@ use Rattle.ready_driver.specs.LegacyTurns.{LegacyTurns, TurnsBy, turning_in}
 use Rattle.ready_driver.specs.Ready.{mask_of, meets}
 use Rattle.ready_driver.specs.Records.{Kept, io_at, changed, with_registered}
 use Rattle.ready_driver.specs.Registry.{is_known, is_old, is_users, registered_each}
+use Rattle.ready_driver.specs.declared.ready.Direction.{Direction}
 use Rattle.ready_driver.specs.declared.ready.Direction.TheVariants as towards
 use Rattle.ready_driver.proofs.Bearing.{bits-kept}
 use Rattle.op_driver.specs.Legacy.{LegacyPolls, LegacySubmits}
@@ -59,7 +60,7 @@ use Rattle.relay_net.proofs.Calls.{Lawful, plain_in}
 use Rattle.relay_net.proofs.Polls.{ready_ends}
 
 -- Handles that are registered keep their bits.
-bits_registered : (handles : List ℕ) (records : Kept) (h : ℕ)
+pub bits_registered : (handles : List ℕ) (records : Kept) (h : ℕ)
     → (io_at (registered_each records handles) h).ready ≡ (io_at records h).ready
 bits_registered [] records h = refl
 bits_registered (n ∷ handles) records h =
@@ -117,32 +118,45 @@ accept_attempt world h listens =
     ∙ ap (λ k. answer_if (not (is_file k || readable_by_kind k listens.handle)) None (answer_if (not (is_listener k))
     (Some (told.Fail INVALID)) (Some (told.Count 0)))) listens.kind
 
--- What an accept waits for.
-accept_awaits : (request : Request Buf Parts) (h : ℕ) → plain_request built request ≡ Accept h → awaits request ≡ Some (h, towards.Read)
-accept_awaits (Accept fd) h same = let e : fd ≡ h = cc in ap (λ n. Some (n, towards.Read)) e
-accept_awaits (Recv fd buf) h same = absurd cc
-accept_awaits (ReadVec fd parts) h same = absurd cc
-accept_awaits (Send fd buf) h same = absurd cc
-accept_awaits (WriteVec fd parts) h same = absurd cc
-accept_awaits (RecvMsg fd buf) h same = absurd cc
-accept_awaits (SendMsg fd addr buf) h same = absurd cc
-accept_awaits (Read fd pos buf) h same = absurd cc
-accept_awaits (Write fd pos buf) h same = absurd cc
-accept_awaits (SpliceTo fd pipe len) h same = absurd cc
-accept_awaits (SpliceFrom pipe fd len) h same = absurd cc
-accept_awaits (Open path flags mode) h same = absurd cc
-accept_awaits (Connect fd addr) h same = absurd cc
-accept_awaits (Fsync fd data_only) h same = absurd cc
-accept_awaits (PollAdd fd read) h same = absurd cc
-accept_awaits (MkDir path mode) h same = absurd cc
-accept_awaits (Rename from to) h same = absurd cc
-accept_awaits (Unlink path remove_dir) h same = absurd cc
+-- What a request waits for is what it waits for as plain data.
+pub plain_awaits : (request : Request Buf Parts) → awaits (plain_request built request) ≡ awaits request
+plain_awaits (Recv fd buf) = refl
+plain_awaits (ReadVec fd parts) = refl
+plain_awaits (Send fd buf) = refl
+plain_awaits (WriteVec fd parts) = refl
+plain_awaits (RecvMsg fd buf) = refl
+plain_awaits (SendMsg fd addr buf) = refl
+plain_awaits (Read fd pos buf) = refl
+plain_awaits (Write fd pos buf) = refl
+plain_awaits (SpliceTo fd pipe len) = refl
+plain_awaits (SpliceFrom pipe fd len) = refl
+plain_awaits (Accept fd) = refl
+plain_awaits (Open path flags mode) = refl
+plain_awaits (Connect fd addr) = refl
+plain_awaits (Fsync fd data_only) = refl
+plain_awaits (PollAdd fd true) = refl
+plain_awaits (PollAdd fd false) = refl
+plain_awaits (MkDir path mode) = refl
+plain_awaits (Rename from to) = refl
+plain_awaits (Unlink path remove_dir) = refl
 
--- What the operation in a slot waits for that is an accept.
+-- What the operation in a slot waits for is what its request does, while it is in flight.
+pub flying_awaits : (slot : Option (Slot Buf)) (request : Request Buffer Parts) → flies_in slot ≡ true → plain_in slot ≡ Some request
+    → slot_awaits slot ≡ awaits request
+flying_awaits None request flies is = absurd cc
+flying_awaits (Some slot) request flies is =
+    let same : plain_request built slot.request ≡ request = cc in
+    ap (λ b. awaits_if b slot.request) flies ∙ (sym (plain_awaits slot.request) ∙ ap awaits same)
+
+-- So it is of an accept.
 slot_accepts : (slot : Option (Slot Buf)) (h : ℕ) → flies_in slot ≡ true → IfAsked (plain_in slot) (IsAccept h)
     → slot_awaits slot ≡ Some (h, towards.Read)
-slot_accepts None h flies asks = absurd cc
-slot_accepts (Some slot) h flies asks = ap (λ b. awaits_if b slot.request) flies ∙ accept_awaits slot.request h asks
+slot_accepts slot h flies asks = by (plain_in slot) refl asks
+  where
+    by : (asked : Option (Request Buffer Parts)) → plain_in slot ≡ asked → IfAsked asked (IsAccept h)
+        → slot_awaits slot ≡ Some (h, towards.Read)
+    by None is asks = absurd asks
+    by (Some request) is asks = flying_awaits slot request flies is ∙ ap awaits asks
 
 -- The request that is called is that of the slot.
 called_accept : (slot : Option (Slot Buf)) (request : Request Buf Parts) (h : ℕ) → IfAsked (plain_in slot) (IsAccept h)
@@ -152,13 +166,13 @@ called_accept (Some slot) request h asks is =
     let e : slot.request ≡ request = cc in ap (plain_request built) (sym e) ∙ asks
 
 -- A poll of what is at hand may call.
-met_at_hand : (files : ℕ → Bool) (records : Kept) (h : ℕ) → meets (io_at records h).ready (mask_of towards.Read) ≡ true
-    → is_met_at records (unless files (Some (h, towards.Read))) ≡ true
-met_at_hand files records h bits = by-file (files h) refl
+pub met_at_hand : (files : ℕ → Bool) (records : Kept) (h : ℕ) (dir : Direction) → meets (io_at records h).ready (mask_of dir) ≡ true
+    → is_met_at records (unless files (Some (h, dir))) ≡ true
+met_at_hand files records h dir bits = by-file (files h) refl
   where
-    by-file : (b : Bool) → files h ≡ b → is_met_at records (unless files (Some (h, towards.Read))) ≡ true
-    by-file true is = ap (λ b. is_met_at records (if b then None else Some (h, towards.Read))) is
-    by-file false is = ap (λ b. is_met_at records (if b then None else Some (h, towards.Read))) is ∙ bits
+    by-file : (b : Bool) → files h ≡ b → is_met_at records (unless files (Some (h, dir))) ≡ true
+    by-file true is = ap (λ b. is_met_at records (if b then None else Some (h, dir))) is
+    by-file false is = ap (λ b. is_met_at records (if b then None else Some (h, dir))) is ∙ bits
 
 module _ {I : Type 0} (view : I → IoView) (tells memory : Bool) (files : I → ℕ → Bool) (called : Called I)
     (law : Lawful view tells memory called) where
@@ -172,7 +186,7 @@ module _ {I : Type 0} (view : I → IoView) (tells memory : Bool) (files : I →
       let waits : slot_awaits slot ≡ Some (listener, towards.Read) = slot_accepts slot listener pending.flies pending.asks in
       let met : is_met_at old.handling.records (unless (files old.handling.io) (slot_awaits slot)) ≡ true =
       ap (λ w. is_met_at old.handling.records (unless (files old.handling.io) w)) waits
-      ∙ met_at_hand (files old.handling.io) old.handling.records listener hand.bits in
+      ∙ met_at_hand (files old.handling.io) old.handling.records listener towards.Read hand.bits in
       let once = subst (λ b. CallsOnce b built called slot old.handling.io (map.get new.slots.values op.key) new.handling.io
       (Ok (Pending back))) met asked.ends.2 in
       let request = called_accept slot once.made.request listener pending.asks once.made.asked in
@@ -220,6 +234,11 @@ on_ok (Err error) P is = tt
 pub map_ok : {T E : Type 0} (result : Result T E) (P Q : Type 0) → (P → Q) → OnOk result P → OnOk result Q
 map_ok (Ok done) P Q gives is = gives is
 map_ok (Err error) P Q gives is = tt
+
+-- What follows from what a call gives if it is Ok.
+pub ok_given : {T E : Type 0} (result : Result T E) (P : Type 0) → (((Q : Type 0) → OnOk result Q → Q) → P) → OnOk result P
+ok_given (Ok done) P gives = gives (λ Q is. is)
+ok_given (Err error) P gives = tt
 
 -- A round that is Ok is one whose work was.
 pub ok_through : {T U E F : Type 0} (result : Result T E) (worked : Result U F) (P : Type 0) → OnOk result (IsOk worked) → OnOk worked P

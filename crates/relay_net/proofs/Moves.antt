@@ -3,7 +3,7 @@ use Rattle.std.proofs.Common.{ℕ, zero, suc, ◌≡◌, ◌∙◌, ◌≤◌, a
 use Rattle.std.proofs.Common.{take, drop, Option, Some, None, Ok, inr}
 use Rattle.std.specs.Prelude.{option_map, unwrap_or, slice_get}
 use Rattle.std.proofs.lemmas.List.{append_assoc, length-take, take-append-drop, take-take, take_all}
-use Rattle.rent_buf.specs.Buf.{built}
+use Rattle.rent_buf.specs.Buf.{built, content_of}
 use Rattle.rent_buf.specs.Buffer.{Buffer, shown, stored}
 use Rattle.rent_buf.specs.Counts.{Rose}
 use Rattle.rent_buf.specs.Parts.{Parts}
@@ -39,8 +39,10 @@ use Rattle.op_driver.specs.Legacy.{LegacyPolls}
 use Rattle.net_stream.specs.Told.{IsSentTo, IsStream, IsTaken, output_at}
 use Rattle.net_stream.proofs.Told.{same_outcome}
 use Rattle.driver_core.proofs.Rising.{rose-later}
-use Rattle.relay_net.specs.Flow.{IfAsked, IsPending, IsReceive, IsSend, asked_at, empty_buffer}
+use Rattle.relay_net.specs.Flow.{IfAsked, IsLoad, IsPending, IsReceive, IsSend, asked_at, empty_buffer}
 use Rattle.relay_net.specs.Keeping.{HasEnded, KeepsUsers, world_of}
+use Rattle.relay_net.specs.Outcomes.{CountsLoad}
+use Rattle.relay_net.specs.declared.flow.TheConstants.{ROOM}
 use Rattle.relay_net.proofs.Calls.{Lawful, later_then}
 use Rattle.relay_net.proofs.Marks.{spent_here, taken_ended}
 use Rattle.relay_net.proofs.Polls.{Ends, ready_ends}
@@ -72,14 +74,22 @@ stored_shows bytes within = take_all 4096 bytes within
 
 -- What a receive brought, by how its call ended.
 abbrev pub Brings : IoView → IoView → Bool → ℕ → Outcome → List ℕ → Type 0
-Brings old new tells from (Count k) bytes = (length bytes ≡ k) × (IsTrue tells
+Brings old new tells from (Count k) bytes = (length bytes ≡ k) × (k ≤ ROOM) × (IsTrue tells
     → (bytes ++ input_at new.world from ≡ input_at old.world from) × IsTaken old.world from new.world
     × (k ≡ 0 → HasEnded new.world from))
-Brings old new tells from (From k addr) bytes = (length bytes ≡ k) × (IsTrue tells
+Brings old new tells from (From k addr) bytes = (length bytes ≡ k) × (k ≤ ROOM) × (IsTrue tells
     → (bytes ++ input_at new.world from ≡ input_at old.world from) × IsTaken old.world from new.world
     × (k ≡ 0 → HasEnded new.world from))
 Brings old new tells from (Made h) bytes = ⊥
 Brings old new tells from (Fail error) bytes = Rose old.fails new.fails × (IsTrue tells → new.world ≡ old.world)
+
+-- A count is that of the bytes which came, of which there is room for all.
+pub brings_load : (old new : IoView) (tells : Bool) (from : ℕ) (call : Outcome) (bytes : List ℕ) → Brings old new tells from call bytes
+    → CountsLoad call bytes
+brings_load old new tells from (Count k) bytes brings = (brings.0, brings.1)
+brings_load old new tells from (From k addr) bytes brings = (brings.0, brings.1)
+brings_load old new tells from (Made h) bytes brings = tt
+brings_load old new tells from (Fail error) bytes brings = tt
 
 -- What the call of a receive brought, with the request that came back.
 pub record Brought (old new : IoView) (tells : Bool) (from : ℕ) (call : Outcome) (now : Request Buffer Parts) : Type 0 where
@@ -161,6 +171,7 @@ recv_brought old new tells memory from (Count k) now made ends rose =
       unmade = refl;
       brings = (
         ap length shows ∙ size,
+        within,
         λ t. filled_moves k old.world new.world from ends.bytes (stored empty_buffer ends.bytes) now (Count k) size within shows is
             (λ e same. absurd cc) (λ j same. cc) (made.moved t),
       );
@@ -178,6 +189,7 @@ recv_brought old new tells memory from (From k addr) now made ends rose =
       unmade = refl;
       brings = (
         ap length shows ∙ size,
+        within,
         λ t. filled_moves k old.world new.world from ends.bytes (stored empty_buffer ends.bytes) now (From k addr) size within shows is
             (λ e same. absurd cc) (λ j same. absurd cc) (made.moved t),
       );
@@ -276,18 +288,20 @@ brings_later : (old mid new : IoView) (tells : Bool) (from : ℕ) (call : Outcom
     → (IsTrue tells → new.world ≡ mid.world) → Brings old mid tells from call bytes → Brings old new tells from call bytes
 brings_later old mid new tells from (Count k) bytes later world brings = (
   brings.0,
+  brings.1,
   λ t. (
-    ap (λ w. bytes ++ input_at w from) (world t) ∙ (brings.1 t).0,
-    subst (λ w. IsTaken old.world from w) (sym (world t)) (brings.1 t).1,
-    λ none. subst (λ w. HasEnded w from) (sym (world t)) ((brings.1 t).2 none),
+    ap (λ w. bytes ++ input_at w from) (world t) ∙ (brings.2 t).0,
+    subst (λ w. IsTaken old.world from w) (sym (world t)) (brings.2 t).1,
+    λ none. subst (λ w. HasEnded w from) (sym (world t)) ((brings.2 t).2 none),
   ),
 )
 brings_later old mid new tells from (From k addr) bytes later world brings = (
   brings.0,
+  brings.1,
   λ t. (
-    ap (λ w. bytes ++ input_at w from) (world t) ∙ (brings.1 t).0,
-    subst (λ w. IsTaken old.world from w) (sym (world t)) (brings.1 t).1,
-    λ none. subst (λ w. HasEnded w from) (sym (world t)) ((brings.1 t).2 none),
+    ap (λ w. bytes ++ input_at w from) (world t) ∙ (brings.2 t).0,
+    subst (λ w. IsTaken old.world from w) (sym (world t)) (brings.2 t).1,
+    λ none. subst (λ w. HasEnded w from) (sym (world t)) ((brings.2 t).2 none),
   ),
 )
 brings_later old mid new tells from (Made h) bytes later world brings = brings
@@ -311,13 +325,14 @@ takes_later old mid new tells to (Fail error) bytes later world takes =
 module _ {I : Type 0} (view : I → IoView) (tells memory : Bool) (files : I → ℕ → Bool) (called : Called I)
     (law : Lawful view tells memory called) where
   -- An operation whose call made no handle: its outcome is that of the call, behind which no bytes moved.
-  record Settles (old new : LegacyState I Buf) (op : Op) (done : Ended Buf) (ends : Ends view tells memory files called law old new op done)
+  pub record Settles (old new : LegacyState I Buf) (op : Op) (done : Ended Buf) (ends : Ends view tells memory files called law old new op
+      done)
       : Type 0 where
-    outcome : done.outcome ≡ ends.call
-    later : IsLater (view ends.mid.io) (view new.handling.io)
-    world : IsTrue tells → world_of view new ≡ (view ends.mid.io).world
+    pub outcome : done.outcome ≡ ends.call
+    pub later : IsLater (view ends.mid.io) (view new.handling.io)
+    pub world : IsTrue tells → world_of view new ≡ (view ends.mid.io).world
 
-  settles : (old new : LegacyState I Buf) (op : Op) (done : Ended Buf) (ends : Ends view tells memory files called law old new op done)
+  pub settles : (old new : LegacyState I Buf) (op : Op) (done : Ended Buf) (ends : Ends view tells memory files called law old new op done)
       → made_by ends.call ≡ None → Settles old new op done ends
   settles old new op done ends none =
       let out : done.outcome ≡ ends.call = ends.outcome ∙ same_outcome ends.mid.table ends.call none in
@@ -387,3 +402,27 @@ module _ {I : Type 0} (view : I → IoView) (tells memory : Bool) (files : I →
           (later_then (view old.handling.io) (view ends.mid.io) (view new.handling.io) made.later s.later, ends.users),
         ),
       )
+
+  -- The bytes of a receive that came back are as many as it counts.
+  pub received_load : (old new : LegacyState I Buf) (op : Op) (done : Ended Buf) (task from : ℕ) (buf : Buf)
+      → LegacyPolls files built called view tells memory old new op task (Ok (Ready done)) → IsPending (ops_in old) op (IsReceive from)
+      → plain_request built done.request ≡ Recv from (built buf) → CountsLoad done.outcome (content_of buf)
+  received_load old new op done task from buf polls pending is =
+      let came = received old new op done task from polls pending in
+      let same : Recv from came.0.buf ≡ Recv from (built buf) = sym came.0.request_is ∙ is in
+      let e : came.0.buf ≡ built buf = cc in
+      subst (λ b. CountsLoad done.outcome (shown b)) e
+      (brings_load (view old.handling.io) (view new.handling.io) tells from done.outcome (shown came.0.buf) came.0.brings)
+
+  -- A send that came back has a load.
+  pub sent_load : (old new : LegacyState I Buf) (op : Op) (done : Ended Buf) (task to count : ℕ) (buf : Buf)
+      → LegacyPolls files built called view tells memory old new op task (Ok (Ready done)) → IsPending (ops_in old) op (IsSend to count)
+      → plain_request built done.request ≡ Send to (built buf) → IsLoad (length (content_of buf))
+  sent_load old new op done task to count buf polls pending is =
+      let went = sent old new op done task to count polls pending in
+      let same : Send to went.0 ≡ Send to (built buf) = sym went.1.1.request_is ∙ is in
+      let e : went.0 ≡ built buf = cc in
+      let own = subst (λ a. IfAsked a (IsSend to count)) went.1.0 pending.asks in
+      let both : Send to went.0 ≡ Send to own.buf = own.request_is in
+      let f : went.0 ≡ own.buf = cc in
+      subst (λ b. IsLoad (length (shown b))) e (subst (λ b. IsLoad (length (shown b))) (sym f) (subst IsLoad (sym own.count_is) own.load))

@@ -13,7 +13,6 @@ use Rattle.ring_core.specs.declared.entry.TheConstants.{MOST_HANDLES}
 use Rattle.ring_core.specs.World.{fresh}
 use Rattle.ring_core.specs.declared.request.Outcome.{Outcome}
 use Rattle.ring_core.specs.declared.request.Outcome.TheVariants as ended
-use Rattle.ring_core.specs.declared.request.Told.TheVariants as told
 use Rattle.ring_core.specs.declared.request.Request.{Request}
 use Rattle.ring_core.specs.declared.request.Request.TheVariants.{Accept}
 use Rattle.ring_core.specs.declared.world.HandleKind.TheVariants.{Stream}
@@ -41,6 +40,8 @@ use Rattle.ready_driver.specs.LegacyPolls.{HandsOver, outcome_for, outcome_if}
 use Rattle.ready_driver.specs.LegacyState.{LegacyState, SameOps, ops_in}
 use Rattle.ready_driver.specs.LegacyTurns.{LegacyTurns, TurnsBy, turning_in}
 use Rattle.ready_driver.specs.Registry.{Handling, TriesFor, is_old}
+use Rattle.ring_core.specs.Attempt.{is_readable_at}
+use Rattle.net_stream.specs.Told.{IsStream}
 use Rattle.op_driver.specs.Legacy.{LegacyDrops, LegacyPolls}
 use Rattle.relay_net.specs.Connection.{FitsConnection, Releases, KeepsStreams, far_of, held_back, held_forth, near_of}
 use Rattle.relay_net.specs.Flow.{IfAsked, IsPending, asked_at}
@@ -56,12 +57,14 @@ use Rattle.relay_net.specs.declared.round.Lost.{Lost}
 use Rattle.relay_net.specs.declared.round.RelayError.{RelayError}
 use Rattle.relay_net.specs.declared.round.RelayError.TheVariants as why
 use Rattle.relay_net.proofs.Calls.{Lawful, given_users, later_same, later_then, left_users, pending_kept, same_users, users_then}
+use Rattle.relay_net.proofs.Seeing.{appended_readable}
 use Rattle.relay_net.proofs.Polls.{other_key, pending_pends, pending_waits, polled_others, ready_ends, starved_pends, starved_waits}
 use Rattle.relay_net.proofs.Connections.{asked_as}
 use Rattle.relay_net.proofs.Relays.{stops_later}
 use Rattle.relay_net.proofs.Beside.{bytes_lines, connection_kept, lines_then}
 use Rattle.relay_net.proofs.Marks.{all_marked, marked_kept, same_handles, streams_then}
-use Rattle.relay_net.proofs.Opens.{accept_apart, accept_world, appended_bytes, appended_streams, bytes_then, fresh_far, fresh_kept, fresh_pushed, given_held, handed_still, same_bytes, stays_widens, unknown_unheld, widens_all}
+use Rattle.relay_net.proofs.Opens.{accept_apart, accept_world, appended_bytes, appended_streams, bytes_then, fresh_far, fresh_kept}
+use Rattle.relay_net.proofs.Opens.{fresh_pushed, given_held, handed_still, same_bytes, stays_widens, unknown_unheld, widens_all}
 
 -- What a turn of the driver did to the waiting accept.
 pub turned_accept : {I : Type 0} (view : I → IoView) (tells reporting memory : Bool) (old new : LegacyState I Buf) (turned : Turned)
@@ -156,6 +159,24 @@ module _ {I : Type 0} (view : I → IoView) (tells memory : Bool) (files : I →
               now = ends.left_users h (given_held ends.mid.table ends.handed.table h hands.1.table);
             },
       )
+
+  -- A stream is readable behind one that ended only if it was.
+  pub accept_readable : (old new : LegacyState I Buf) (op : Op) (answer : PollOp Buf) (done : Ended Buf) (task listener : ℕ)
+      → answer ≡ Ready done → LegacyPolls files built called view tells memory old new op task (Ok answer)
+      → IsPending (ops_in old) op (IsAccept listener) → IsTrue tells → (h : ℕ) → IsStream (world_of view old) h
+      → is_readable_at (world_of view new) h ≡ true → is_readable_at (world_of view old) h ≡ true
+  accept_readable old new op answer done task listener is polls pending t h stream readable =
+      let asked = subst (λ a. LegacyPolls files built called view tells memory old new op task (Ok a)) is polls in
+      let ends = ready_ends view tells memory files called law old new op done task (IsAccept listener) asked pending in
+      let request : ends.request ≡ Accept listener = subst (λ a. IfAsked a (IsAccept listener)) ends.asked pending.asks in
+      let handed = handed_still view tells memory ends.mid ends.handed (made_by done.outcome) ends.hands in
+      let same : world_of view new ≡ (view ends.mid.io).world = ends.left_world t ∙ handed.1 t in
+      elim (accept_world (world_of view old) (view ends.mid.io).world listener (plain_request built done.request) ends.call
+      (subst (λ r. IsMoved (world_of view old) r (view ends.mid.io).world (plain_request built done.request) ends.call) request
+      (ends.made.moved t))) [
+        | inl e ↦ ap (λ w. is_readable_at w h) (sym (same ∙ e)) ∙ readable
+        | inr e ↦ appended_readable (world_of view old) h stream (ap (λ w. is_readable_at w h) (sym (same ∙ e)) ∙ readable)
+      ]
 
   -- An accept failed only where the object counted an error, if the number of its next handle can be new.
   pub accept_fails : ((before : I) (request : Request Buffer Parts) (after : I) (now : Request Buffer Parts) (h : ℕ)

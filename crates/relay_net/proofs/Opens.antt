@@ -1,5 +1,5 @@
 -- What the turn, the accept and the other end leave of the connections.
-use Rattle.std.proofs.Common.{ℕ, zero, suc, ◌≡◌, ◌≢◌, ◌∙◌, ap, sym, refl, subst, arith, Bool, IsTrue, true, false, List, [], ◌∷◌, ◌++◌}
+use Rattle.std.proofs.Common.{ℕ, zero, suc, ◌≡◌, ◌≢◌, ◌∙◌, ap, sym, refl, subst, Bool, IsTrue, true, false, List, [], ◌∷◌, ◌++◌}
 use Rattle.std.proofs.Common.{Option, Some, None, inl, inr}
 use Rattle.std.specs.Prelude.{◌⊎◌, ◌||◌, is_some, nat_le, nat_lt, option_map, slice_get, unwrap_or}
 use Rattle.std.specs.FinMap as map
@@ -12,7 +12,6 @@ use Rattle.ring_core.specs.declared.entry.TheConstants.{MOST_HANDLES}
 use Rattle.ring_core.specs.World.{fresh, input_at}
 use Rattle.ring_core.specs.WorldCall.{call_effect}
 use Rattle.ring_core.specs.declared.request.Outcome.{Outcome}
-use Rattle.ring_core.specs.declared.request.Outcome.TheVariants as ended
 use Rattle.ring_core.specs.declared.request.Told.{Told}
 use Rattle.ring_core.specs.declared.request.Told.TheVariants as told
 use Rattle.ring_core.specs.declared.request.Request.{Request}
@@ -24,7 +23,6 @@ use Rattle.driver_core.specs.declared.op.Turned.{Turned}
 use Rattle.driver_core.specs.declared.op.Stop.{Stop}
 use Rattle.driver_core.specs.declared.op.Stop.TheVariants as stop
 use Rattle.driver_core.proofs.Maps.{put-same}
-use Rattle.ready_driver.specs.declared.non_block.NonBlockError.TheVariants as non_block
 use Rattle.ready_driver.specs.Io.{IoView, IsLater, IsMoved}
 use Rattle.ready_driver.specs.LegacyPolls.{HandsOver}
 use Rattle.ready_driver.specs.LegacyState.{LegacyState, ops_in}
@@ -41,7 +39,6 @@ use Rattle.relay_net.specs.Relay.{AreBeside, AreServed, IsAccept, IsAmong, IsSer
 use Rattle.relay_net.specs.Relay.{Serving}
 use Rattle.relay_net.specs.declared.connection.Connection.{Connection}
 use Rattle.relay_net.specs.declared.round.Lost.{Lost}
-use Rattle.relay_net.specs.declared.round.RelayError.TheVariants as why
 use Rattle.relay_net.proofs.Calls.{later_same, later_then}
 use Rattle.relay_net.proofs.Connections.{ops_fewer}
 use Rattle.relay_net.proofs.Beside.{IsKept, beside_swap, bytes_lines, connection_kept, lines_then}
@@ -49,10 +46,10 @@ use Rattle.relay_net.proofs.Places.{get_pushed}
 use Rattle.relay_net.proofs.Marks.{all_marked, appended_ended, marked_kept, pushed_marked, same_handles, streams_then}
 
 -- A receive, and a send, are transfers; an accept is none.
-receive_transfer : (h : ℕ) (request : Request Buffer Parts) → IsReceive h request → IsTransfer request
+pub receive_transfer : (h : ℕ) (request : Request Buffer Parts) → IsReceive h request → IsTransfer request
 receive_transfer h request is = subst IsTransfer (sym is) tt
 
-send_transfer : (h count : ℕ) (request : Request Buffer Parts) → IsSend h count request → IsTransfer request
+pub send_transfer : (h count : ℕ) (request : Request Buffer Parts) → IsSend h count request → IsTransfer request
 send_transfer h count request is = subst IsTransfer (sym is.request_is) tt
 
 pub accept_apart : (listener : ℕ) (request : Request Buffer Parts) → IsAccept listener request → IsTransfer request → ⊥

@@ -1,6 +1,6 @@
 -- What the outcome of a transfer does to a direction.
-use Rattle.std.proofs.Common.{ℕ, ◌≡◌, ◌∙◌, ap, sym, refl, subst, arith, Bool, []}
-use Rattle.std.proofs.Common.{drop, Ok, Err, inl}
+use Rattle.std.proofs.Common.{ℕ, ◌≡◌, ◌∙◌, ap, sym, refl, subst, Bool, []}
+use Rattle.std.proofs.Common.{Ok, Err, inl}
 use Rattle.rent_buf.specs.Buf.{built, content_of}
 use Rattle.rent_buf.specs.Buffer.{Buffer, shown}
 use Rattle.rent_buf.specs.Parts.{Parts}
@@ -17,7 +17,6 @@ use Rattle.driver_core.specs.declared.op.Done.{Done as Ended}
 use Rattle.driver_core.specs.declared.op.Op.{Op}
 use Rattle.driver_core.specs.declared.op.PollOp.{PollOp}
 use Rattle.driver_core.specs.declared.op.PollOp.TheVariants.{Pending, Ready}
-use Rattle.driver_core.specs.declared.op.SubmitFault.TheVariants as submit
 use Rattle.ready_driver.specs.Calling.{Called}
 use Rattle.ready_driver.specs.Io.{IoView}
 use Rattle.ready_driver.specs.LegacyState.{LegacyState, ops_in}

@@ -37,7 +37,7 @@ use Rattle.relay_net.specs.Keeping.{KeepsOps, KeepsUsers, world_of}
 use Rattle.relay_net.proofs.Calls.{Lawful, handed_users, later_same, lets_users, plain_in, same_users, users_then}
 
 -- The two ways to look up a request agree.
-same_asked : (slot : Option (Slot Buf)) → request_in slot ≡ asked_in slot
+pub same_asked : (slot : Option (Slot Buf)) → request_in slot ≡ asked_in slot
 same_asked None = refl
 same_asked (Some slot) = refl
 

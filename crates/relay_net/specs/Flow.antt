@@ -1,5 +1,5 @@
 -- One direction of a connection: what it waits for, what it holds, and its bytes on their way. Cited by `flow`.
-use Rattle.std.specs.Prelude.{ℕ, ◌≡◌, ◌≢◌, ◌++◌, true, List, [], length, Option, Some, None, option_map}
+use Rattle.std.specs.Prelude.{ℕ, ◌≡◌, ◌≢◌, ◌≤◌, ◌++◌, true, List, [], length, Option, Some, None, option_map}
 use Rattle.std.specs.FinMap as map
 use Rattle.rent_buf.specs.Buf.{built, content_of}
 use Rattle.rent_buf.specs.Buffer.{Buffer, shown, whole_of}
@@ -39,11 +39,16 @@ empty_buffer = whole_of Vector [] ROOM
 abbrev pub IsReceive : ℕ → Request Buffer Parts → Type 0
 IsReceive from request = request ≡ Recv from empty_buffer
 
+-- A direction holds so many bytes: one at least, and as many as a receive has room for at most.
+abbrev pub IsLoad : ℕ → Type 0
+IsLoad count = (1 ≤ count) × (count ≤ ROOM)
+
 -- A request is a send of so many bytes to a handle.
 pub record IsSend (to count : ℕ) (request : Request Buffer Parts) : Type 0 where
   pub buf : Buffer
   pub request_is : request ≡ Send to buf
   pub count_is : length (shown buf) ≡ count
+  pub load : IsLoad count
 
 -- A request is neither a receive from the one handle nor a send to the other.
 abbrev pub IsElse : ℕ → ℕ → Request Buffer Parts → Type 0
@@ -57,11 +62,11 @@ pub record IsPending (ops : Ops Buf) (op : Op) (P : Request Buffer Parts → Typ
   pub flies : flies_in (map.get ops.slots.values op.key) ≡ true
   pub asks : IfAsked (asked_at ops op) P
 
--- The driver has the operation that a direction waits for, if it waits for one.
+-- The driver has the operation that a direction waits for, if it waits for one; and what the direction holds is a load.
 abbrev pub FitsStage : Ops Buf → ℕ → ℕ → Stage → Type 0
 FitsStage ops from to (Idle spare) = Unit {0}
 FitsStage ops from to (Receiving op) = IsPending ops op (IsReceive from)
-FitsStage ops from to (Held buf) = Unit {0}
+FitsStage ops from to (Held buf) = IsLoad (length (content_of buf))
 FitsStage ops from to (Sending op count) = IsPending ops op (IsSend to count)
 
 abbrev pub FitsFlow : Ops Buf → Flow → Type 0
@@ -84,7 +89,6 @@ held_in ops (Held buf) = content_of buf
 held_in ops (Sending op count) = bytes_sent (asked_at ops op)
 
 -- All bytes of a direction, the first ones first: those that were sent to its second handle, those that are held, and those that wait at
--- its
--- first handle.
+-- its first handle.
 abbrev pub line : List HandleState → ℕ → ℕ → List ℕ → List ℕ
 line world from to held = output_at world to ++ (held ++ input_at world from)

@@ -7,4 +7,5 @@ pub mod Relay
 pub mod Opening
 pub mod Listening
 pub mod Keyed
+pub mod Forwarding
 pub mod Relaying

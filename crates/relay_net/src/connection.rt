@@ -7,6 +7,7 @@ ghost use Rattle.ready_driver.specs.Registry.{is_users};
 ghost use Rattle.relay_net.specs.Connection.{EndsConnection, FitsConnection, FitsBack, FollowsAs, IsGoing, IsLostAs, IsOver, IsOverIf};
 ghost use Rattle.relay_net.specs.Connection.{Releases, Serves};
 ghost use Rattle.relay_net.specs.Connection.{far_of, held_back, held_forth, near_of};
+ghost use Rattle.relay_net.specs.Forwarding.{CanForward, ForwardsBoth, KeepsSeen, KeepsSeenBut, StepsBack, StepsForth};
 ghost use Rattle.relay_net.specs.Keyed.{KeepsKeys};
 
 use crate::flow::{Came, Flow, Reads, abandon, step};
@@ -66,6 +67,8 @@ fn step_forth<I: NonBlock>(driver: &mut Reads<I>, alloc: Global, conn: &mut Conn
     ensures going { IsGoing result }
     ensures given { driver.new.given ≤ driver.old.given + 1 }
     ensures keyed { KeepsKeys I.view I.memory driver.old driver.new }
+    ensures seen { KeepsSeen I.view I.memory driver.old driver.new }
+    ensures forwards { StepsForth I.view I.tells I.memory driver.old driver.new conn.old conn.new result }
 {
     let reads = !conn.ending;
     let came = step(driver, alloc, &mut conn.forth, reads);
@@ -83,6 +86,8 @@ fn step_back<I: NonBlock>(driver: &mut Reads<I>, alloc: Global, conn: &mut Conne
     ensures going { IsGoing result }
     ensures given { driver.new.given ≤ driver.old.given + 1 }
     ensures keyed { KeepsKeys I.view I.memory driver.old driver.new }
+    ensures seen { KeepsSeen I.view I.memory driver.old driver.new }
+    ensures forwards { StepsBack I.view I.tells I.memory driver.old driver.new conn.old conn.new result }
 {
     let reads = !conn.ending;
     match &mut conn.back {
@@ -108,6 +113,9 @@ pub(crate) fn serve<I: NonBlock>(
     ensures over { IsOverIf (ops_in driver.new) conn.new result }
     ensures given { driver.new.given ≤ driver.old.given + 2 }
     ensures keyed { KeepsKeys I.view I.memory driver.old driver.new }
+    ensures seen { KeepsSeen I.view I.memory driver.old driver.new }
+    ensures forwards { IsTrue I.memory → CanForward I.view driver.old (near_of conn.old) (far_of conn.old) → conn.new.ending ≡ false
+        → result ≡ Served.Open → ForwardsBoth I.view driver.old conn.old driver.new conn.new }
 {
     match step_forth(driver, alloc, conn) {
         Served::Open => {}
@@ -129,6 +137,7 @@ pub(crate) fn release<I: NonBlock>(driver: &mut Reads<I>, fd: SharedFd)
     ensures releases { Releases I.view I.tells driver.old fd driver.new }
     ensures given { driver.new.given ≡ driver.old.given }
     ensures keyed { KeepsKeys I.view I.memory driver.old driver.new }
+    ensures seen { KeepsSeenBut I.view I.memory driver.old fd fd driver.new }
 {
     let _ = driver.release(fd);
 }
@@ -143,6 +152,7 @@ fn end_back<I: NonBlock>(driver: &mut Reads<I>, near: SharedFd, far: SharedFd, b
     ensures same { near ≡ far → driver.new ≡ driver.old }
     ensures given { driver.new.given ≡ driver.old.given }
     ensures keyed { KeepsKeys I.view I.memory driver.old driver.new }
+    ensures seen { KeepsSeenBut I.view I.memory driver.old near far driver.new }
 {
     match back {
         None => {}
@@ -232,6 +242,7 @@ impl Connection {
         ensures ends { EndsConnection I.view I.tells driver.old (near_of self) (far_of self) driver.new }
         ensures given { driver.new.given ≡ driver.old.given }
         ensures keyed { KeepsKeys I.view I.memory driver.old driver.new }
+        ensures seen { KeepsSeenBut I.view I.memory driver.old (near_of self) (far_of self) driver.new }
     {
         let Connection {
             forth,

@@ -3,6 +3,7 @@ ghost use Rattle.std.specs.Prelude.{◌≡◌, true, false, IsTrue, IfOk, IfErr}
 ghost use Rattle.ready_driver.specs.LegacyState.{ops_in};
 ghost use Rattle.ready_driver.specs.Registry.{is_old, is_users};
 ghost use Rattle.relay_net.specs.Keeping.{AnyRequest, KeepsOps};
+ghost use Rattle.relay_net.specs.Forwarding.{KeepsSeen};
 ghost use Rattle.relay_net.specs.Keyed.{KeepsKeys};
 ghost use Rattle.relay_net.specs.Opening.{FarFails, IsFar, IsNew, Widens};
 
@@ -27,7 +28,8 @@ pub trait Far<I: Sockets>: Drop {
         ensures far { IfOk result (λ far. IsFar driver.old.handling.table driver.new.handling.table near far) }
         ensures fault { IfErr result (FarFails (I.view driver.old.handling.io) (I.view driver.new.handling.io)) }
         ensures given { driver.new.given ≡ driver.old.given }
-        ensures keyed { KeepsKeys I.view I.memory driver.old driver.new };
+        ensures keyed { KeepsKeys I.view I.memory driver.old driver.new }
+        ensures seen { KeepsSeen I.view I.memory driver.old driver.new };
 }
 
 // The number of the object's next handle can be new.
@@ -47,6 +49,7 @@ fn dial<I: Sockets>(driver: &mut LegacyDriver<I, Buf>, port: u16) -> Result<Shar
     ensures fault { IfErr result (FarFails (I.view driver.old.handling.io) (I.view driver.new.handling.io)) }
     ensures given { driver.new.given ≡ driver.old.given }
     ensures keyed { KeepsKeys I.view I.memory driver.old driver.new }
+    ensures seen { KeepsSeen I.view I.memory driver.old driver.new }
 {
     if !has_number(driver) {
         return Err(NonBlockError::OutOfMemory);

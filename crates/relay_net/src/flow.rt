@@ -1,5 +1,5 @@
 // One direction of a connection: bytes come at a handle, and go to another one.
-ghost use Rattle.std.specs.Prelude.{◌≡◌, ◌≤◌, ◌<◌, ◌+◌, ◌∷◌, [], false, None, ℕ, IsTrue, IfOk, IfErr, OnOk, drop, length};
+ghost use Rattle.std.specs.Prelude.{◌≡◌, ◌≤◌, ◌<◌, ◌+◌, ◌∷◌, [], true, false, None, ℕ, IsTrue, IfOk, IfErr, OnOk, drop, length};
 ghost use Rattle.rent_buf.specs.Buf.{built, content_of};
 ghost use Rattle.rent_buf.specs.Buffer.{Buffer, shown};
 ghost use Rattle.ring_core.specs.Effect.{made_by};
@@ -7,12 +7,18 @@ ghost use Rattle.ring_core.specs.Request.{named, plain_request};
 ghost use Rattle.ring_core.specs.declared.request.Request.TheVariants.{Recv, Send};
 ghost use Rattle.ready_driver.specs.LegacyState.{holds_all, ops_in};
 ghost use Rattle.ready_driver.specs.Records.{io_at};
-ghost use Rattle.relay_net.specs.Flow.{FitsFlow, FitsStage, IsPending, IsReceive, IsSend, asked_at, bytes_sent, empty_buffer, held_in};
-ghost use Rattle.relay_net.specs.Keeping.{Stays, StopsAs, StopsFor};
+ghost use Rattle.relay_net.specs.Flow.{FitsFlow, FitsStage, IsLoad, IsPending, IsReceive, IsSend, asked_at, bytes_sent};
+ghost use Rattle.relay_net.specs.Flow.{empty_buffer, held_in};
+ghost use Rattle.relay_net.specs.Forwarding.{CanForward, Forwards, IsAwaiting, KeepsSeen};
+ghost use Rattle.relay_net.specs.Keeping.{Stays, StopsAs, StopsFor, world_of};
 ghost use Rattle.relay_net.specs.Keyed.{KeepsKeys};
-ghost use Rattle.relay_net.specs.Outcomes.{IsIdle, ReceivedAs, SentAs};
-ghost use Rattle.relay_net.specs.Steps.{Abandons, Begins, Flows};
+ghost use Rattle.relay_net.specs.Outcomes.{CountsLoad, IsIdle, ReceivedAs, SentAs};
+ghost use Rattle.relay_net.specs.Steps.{Begins, Flows};
 ghost use Rattle.driver_core.specs.Ops.{Ops};
+
+mod drops;
+
+pub(crate) use drops::abandon;
 
 use crate::round::RelayError;
 use driver_core::{Done, MOST_GIVEN, Op, PollOp, SubmitError, SubmitFault};
@@ -97,6 +103,7 @@ pub(crate) fn submit<I: NonBlock>(
     ensures stops { IfErr result (λ refused. StopsFor (I.view driver.old.handling.io) (I.view driver.new.handling.io) refused.0) }
     ensures given { driver.new.given ≤ driver.old.given + 1 }
     ensures keyed { KeepsKeys I.view I.memory driver.old driver.new }
+    ensures seen { KeepsSeen I.view I.memory driver.old driver.new }
 {
     let _ = driver.given();
     match driver.submit_op(request) {
@@ -198,6 +205,8 @@ fn receive<I: NonBlock>(
     ensures begins { Begins I.view I.tells driver.old driver.new from to [] result.0 result.1 }
     ensures given { driver.new.given ≤ driver.old.given + 1 }
     ensures keyed { KeepsKeys I.view I.memory driver.old driver.new }
+    ensures seen { KeepsSeen I.view I.memory driver.old driver.new }
+    ensures awaits { result.1 ≡ None → IsAwaiting result.0 }
 {
     let _ = to;
     let Ok(buf) = empty(alloc, spare) else {
@@ -220,10 +229,13 @@ fn send<I: NonBlock>(
     buf: Buf,
 ) -> (Stage, Option<RelayError>)
     requires held { IsTrue (holds_all driver.old.handling.table (to ∷ [])) }
+    requires load { IsLoad (length (content_of buf)) }
     requires counter { driver.old.given < MOST_GIVEN }
     ensures begins { Begins I.view I.tells driver.old driver.new from to (content_of buf) result.0 result.1 }
     ensures given { driver.new.given ≤ driver.old.given + 1 }
     ensures keyed { KeepsKeys I.view I.memory driver.old driver.new }
+    ensures seen { KeepsSeen I.view I.memory driver.old driver.new }
+    ensures awaits { result.1 ≡ None → IsAwaiting result.0 }
 {
     let _ = from;
     let count = buf.bytes_init();
@@ -236,6 +248,7 @@ fn send<I: NonBlock>(
 // What follows the outcome of a receive.
 fn received(outcome: Outcome, buf: Buf) -> (Stage, Came)
     requires unmade { made_by outcome ≡ None }
+    requires load { CountsLoad outcome (content_of buf) }
     ensures ended { ReceivedAs outcome (content_of buf) result.0 result.1 }
 {
     match outcome {
@@ -253,6 +266,7 @@ fn received(outcome: Outcome, buf: Buf) -> (Stage, Came)
 // What follows the outcome of a send: what wasn't sent is held on.
 fn sent(outcome: Outcome, buf: Buf) -> (Stage, Came)
     requires unmade { made_by outcome ≡ None }
+    requires load { IsLoad (length (content_of buf)) }
     ensures ended { SentAs outcome (content_of buf) result.0 result.1 }
 {
     match outcome {
@@ -278,6 +292,9 @@ fn poll_receive<I: NonBlock>(
     ensures flows { Flows I.view I.tells driver.old driver.new from to [] result.0 result.1 }
     ensures given { driver.new.given ≡ driver.old.given }
     ensures keyed { KeepsKeys I.view I.memory driver.old driver.new }
+    ensures seen { KeepsSeen I.view I.memory driver.old driver.new }
+    ensures forwards { IsTrue I.memory → CanForward I.view driver.old from to → result.1 ≡ Came.Goes
+        → Forwards (world_of I.view driver.old) (world_of I.view driver.new) from to [] (held_in (ops_in driver.new) result.0) }
 {
     let _ = to;
     match OpDriver::poll_op(driver, op, TASK) {
@@ -302,6 +319,10 @@ fn poll_send<I: NonBlock>(
     ensures flows { Flows I.view I.tells driver.old driver.new from to (bytes_sent (asked_at (ops_in driver.old) op)) result.0 result.1 }
     ensures given { driver.new.given ≡ driver.old.given }
     ensures keyed { KeepsKeys I.view I.memory driver.old driver.new }
+    ensures seen { KeepsSeen I.view I.memory driver.old driver.new }
+    ensures forwards { IsTrue I.memory → CanForward I.view driver.old from to → result.1 ≡ Came.Goes
+        → Forwards (world_of I.view driver.old) (world_of I.view driver.new) from to (bytes_sent (asked_at (ops_in driver.old) op))
+        (held_in (ops_in driver.new) result.0) }
 {
     let _ = from;
     match OpDriver::poll_op(driver, op, TASK) {
@@ -335,6 +356,8 @@ fn begin<I: NonBlock>(
     ensures quiet { reads ≡ false → IsIdle stage → IsIdle result.0 }
     ensures given { driver.new.given ≤ driver.old.given + 1 }
     ensures keyed { KeepsKeys I.view I.memory driver.old driver.new }
+    ensures seen { KeepsSeen I.view I.memory driver.old driver.new }
+    ensures awaits { reads ≡ true → result.1 ≡ None → IsAwaiting result.0 }
 {
     match stage {
         Stage::Idle(spare) => {
@@ -361,6 +384,10 @@ fn poll<I: NonBlock>(
     ensures quiet { IsIdle stage → IsIdle result.0 }
     ensures given { driver.new.given ≡ driver.old.given }
     ensures keyed { KeepsKeys I.view I.memory driver.old driver.new }
+    ensures seen { KeepsSeen I.view I.memory driver.old driver.new }
+    ensures forwards { IsTrue I.memory → IsAwaiting stage → CanForward I.view driver.old from to → result.1 ≡ Came.Goes
+        → Forwards (world_of I.view driver.old) (world_of I.view driver.new) from to (held_in (ops_in driver.old) stage)
+        (held_in (ops_in driver.new) result.0) }
 {
     match stage {
         Stage::Receiving(op) => poll_receive(driver, op, from, to),
@@ -399,6 +426,11 @@ pub(crate) fn step<I: NonBlock>(
     ensures quiet { reads ≡ false → IsIdle flow.old.stage → IsIdle flow.new.stage }
     ensures given { driver.new.given ≤ driver.old.given + 1 }
     ensures keyed { KeepsKeys I.view I.memory driver.old driver.new }
+    ensures seen { KeepsSeen I.view I.memory driver.old driver.new }
+    // Over handles in memory, where it may receive it forwards what it can.
+    ensures forwards { IsTrue I.memory → reads ≡ true → CanForward I.view driver.old flow.old.from flow.old.to → result ≡ Came.Goes
+        → Forwards (world_of I.view driver.old) (world_of I.view driver.new) flow.old.from flow.old.to
+        (held_in (ops_in driver.old) flow.old.stage) (held_in (ops_in driver.new) flow.new.stage) }
 {
     let stage = mem::replace(&mut flow.stage, Stage::Idle(None));
     let (stage, stop) = begin(driver, alloc, flow.from, flow.to, stage, reads);
@@ -409,48 +441,6 @@ pub(crate) fn step<I: NonBlock>(
     let (stage, came) = poll(driver, flow.from, flow.to, stage);
     put(&mut flow.stage, stage);
     came
-}
-
-// Drops a receive that waits.
-fn drop_receive<I: NonBlock>(driver: &mut Reads<I>, op: Op, from: SharedFd, to: SharedFd)
-    requires pending { IsPending (ops_in driver.old) op (IsReceive from) }
-    ensures drops { Abandons I.view I.tells driver.old from to driver.new }
-    ensures given { driver.new.given ≡ driver.old.given }
-    ensures keyed { KeepsKeys I.view I.memory driver.old driver.new }
-{
-    let _ = (from, to);
-    OpDriver::drop_op(driver, op);
-}
-
-// Drops a send that waits.
-fn drop_send<I: NonBlock>(driver: &mut Reads<I>, op: Op, count: usize, from: SharedFd, to: SharedFd)
-    requires pending { IsPending (ops_in driver.old) op (IsSend to count) }
-    ensures drops { Abandons I.view I.tells driver.old from to driver.new }
-    ensures given { driver.new.given ≡ driver.old.given }
-    ensures keyed { KeepsKeys I.view I.memory driver.old driver.new }
-{
-    let _ = (count, from, to);
-    OpDriver::drop_op(driver, op);
-}
-
-// Drops what waits.
-#[tactic(auto, using(crate::proofs::Outcomes::still_abandons, crate::proofs::Keyed::keeps_none))]
-pub(crate) fn abandon<I: NonBlock>(
-    driver: &mut Reads<I>,
-    from: SharedFd,
-    to: SharedFd,
-    stage: Stage,
-)
-    requires fits { FitsStage (ops_in driver.old) from to stage }
-    ensures drops { Abandons I.view I.tells driver.old from to driver.new }
-    ensures given { driver.new.given ≡ driver.old.given }
-    ensures keyed { KeepsKeys I.view I.memory driver.old driver.new }
-{
-    match stage {
-        Stage::Receiving(op) => drop_receive(driver, op, from, to),
-        Stage::Sending { op, count } => drop_send(driver, op, count, from, to),
-        Stage::Idle(_) | Stage::Held(_) => {}
-    }
 }
 
 impl Flow {

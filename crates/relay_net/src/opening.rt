@@ -6,6 +6,7 @@ ghost use Rattle.ready_driver.specs.Registry.{is_old};
 ghost use Rattle.ready_driver.specs.LegacyState.{LegacyState, ops_in};
 ghost use Rattle.rent_buf.specs.declared.plain.Buf.{Buf};
 ghost use Rattle.relay_net.specs.Flow.{IsPending};
+ghost use Rattle.relay_net.specs.Forwarding.{AreUntouched, KeepsSeen};
 ghost use Rattle.relay_net.specs.Keyed.{KeepsKeys};
 ghost use Rattle.relay_net.specs.Listening.{ArrivesUnless, IsAtHand, IsMadeUnless};
 ghost use Rattle.relay_net.specs.Opening.{AcceptedAs, AcceptedFor, ArrivesFor, FarStops, IsFirst, IsFresh, Opening, Widens};
@@ -70,6 +71,7 @@ fn poll_accept<I: Sockets>(driver: &mut Reads<I>, op: Op, listener: SharedFd) ->
     ensures makes { IsTrue I.memory → IsAtHand I.view driver.old listener → IsMadeUnless result }
     ensures given { driver.new.given ≡ driver.old.given }
     ensures keyed { KeepsKeys I.view I.memory driver.old driver.new }
+    ensures seen { KeepsSeen I.view I.memory driver.old driver.new }
 {
     let _ = listener;
     match OpDriver::poll_op(driver, op, TASK) {
@@ -113,6 +115,9 @@ pub(crate) fn begin_accept<I: NonBlock>(state: &mut State<I>) -> Result<(), Rela
     ensures hand { OnOk result (IsTrue I.tells → (h : ℕ) → IsAtHand I.view state.old.driver h → IsAtHand I.view state.new.driver h) }
     ensures given { state.new.driver.given ≤ state.old.driver.given + 1 }
     ensures keyed { KeepsKeys I.view I.memory state.old.driver state.new.driver }
+    ensures forwards { IsTrue I.memory → (start : LegacyState I Buf) (was : List Conn)
+        → AreUntouched I.view start was state.old.driver state.old.open.items
+        → AreUntouched I.view start was state.new.driver state.new.open.items }
 {
     if state.accept.is_some() {
         return Ok(());
@@ -143,6 +148,9 @@ pub(crate) fn arrive<I: Sockets>(state: &mut State<I>) -> Arrival
     ensures same { (state.new.listener ≡ state.old.listener) × (state.new.open ≡ state.old.open) }
     ensures given { state.new.driver.given ≡ state.old.driver.given }
     ensures keyed { KeepsKeys I.view I.memory state.old.driver state.new.driver }
+    ensures forwards { IsTrue I.memory → (start : LegacyState I Buf) (was : List Conn)
+        → AreUntouched I.view start was state.old.driver state.old.open.items
+        → AreUntouched I.view start was state.new.driver state.new.open.items }
 {
     if !has_number(&state.driver) {
         return Arrival::OutOfMemory;
@@ -192,6 +200,10 @@ pub(crate) fn open_one<I: Sockets, F: Far<I>>(
     ensures stops { StopsUnless (I.view state.old.driver.handling.io) (I.view state.new.driver.handling.io) result }
     ensures given { state.new.driver.given ≡ state.old.driver.given }
     ensures keyed { KeepsKeys I.view I.memory state.old.driver state.new.driver }
+    ensures forwards { OnOk result (IsTrue I.memory → (start : LegacyState I Buf) (was : List Conn)
+        → Opening I.view I.tells start was state.old.driver state.old.open.items
+        → AreUntouched I.view start was state.old.driver state.old.open.items
+        → AreUntouched I.view start was state.new.driver state.new.open.items) }
     ensures names { OnOk result (map near_of state.new.open.items ≡ map near_of state.old.open.items ++ near ∷ []) }
     ensures err { OnErr result (map near_of state.new.open.items ≡ map near_of state.old.open.items) }
     ensures first { OnOk result (IsFirst (ops_in state.new.driver) state.new.open.items near) }

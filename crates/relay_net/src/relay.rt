@@ -9,6 +9,7 @@ ghost use Rattle.rent_buf.specs.declared.plain.Buf.{Buf};
 ghost use Rattle.relay_net.specs.declared.connection.Connection.{Connection as Conn};
 ghost use Rattle.relay_net.specs.Opening.{AcceptFails, IsFirst, Opening, WasOpened, Widens};
 ghost use Rattle.relay_net.specs.Flow.{IsPending};
+ghost use Rattle.relay_net.specs.Forwarding.{AreUntouched, HaveForwarded};
 ghost use Rattle.relay_net.specs.Keyed.{AreRegistered, HasKeys, KeepsKeys};
 ghost use Rattle.relay_net.specs.Listening.{IsAtHand, MayListen};
 ghost use Rattle.relay_net.specs.Connection.{near_of};
@@ -121,6 +122,8 @@ fn turn<R: Wait + Clock, I: Sockets, P: Ledger, D: Ledger>(
     ensures same { (state.new.listener ≡ state.old.listener) × (state.new.open ≡ state.old.open) }
     ensures given { state.new.driver.given ≡ state.old.driver.given }
     ensures keyed { KeepsKeys I.view I.memory state.old.driver state.new.driver }
+    ensures forwards { OnOk result.1 (IsTrue I.memory → HasKeys I.view state.old.driver.handling
+        → AreUntouched I.view state.old.driver state.old.open.items state.new.driver state.new.open.items) }
 {
     match wait {
         None => {
@@ -166,6 +169,10 @@ fn accept<I: Sockets, F: Far<I>>(
     ensures more { vec_len state.new.open ≤ vec_len state.old.open + 1 }
     ensures given { state.new.driver.given ≤ state.old.driver.given + 1 }
     ensures keyed { KeepsKeys I.view I.memory state.old.driver state.new.driver }
+    ensures forwards { OnOk result (IsTrue I.memory → (start : LegacyState I Buf) (was : List Conn)
+        → Opening I.view I.tells start was state.old.driver state.old.open.items
+        → AreUntouched I.view start was state.old.driver state.old.open.items
+        → AreUntouched I.view start was state.new.driver state.new.open.items) }
 {
     if state.open.len() >= limit {
         return Ok(());
@@ -224,6 +231,10 @@ fn work<I: Sockets, F: Far<I>>(
     ensures places { vec_len state.new.open ≤ limit }
     ensures given { state.new.driver.given ≤ state.old.driver.given + 129 }
     ensures keyed { KeepsKeys I.view I.memory state.old.driver state.new.driver }
+    ensures forwards { OnOk result (IsTrue I.memory → (start : LegacyState I Buf) (was : List Conn)
+        → Opening I.view I.tells start was state.old.driver state.old.open.items
+        → AreUntouched I.view start was state.old.driver state.old.open.items
+        → HaveForwarded I.view start was state.new.driver state.new.open.items) }
 {
     accept(state, far, limit, lists)?;
     serve_all(state, alloc, &mut lists.ended)
@@ -270,6 +281,10 @@ fn behind<I: Sockets, F: Far<I>>(
     ensures places { vec_len state.new.open ≤ limit }
     ensures given { state.new.driver.given ≤ state.old.driver.given + 129 }
     ensures keyed { KeepsKeys I.view I.memory state.old.driver state.new.driver }
+    ensures forwards { OnOk result (IsTrue I.memory → (start : LegacyState I Buf) (was : List Conn)
+        → Opening I.view I.tells start was state.old.driver state.old.open.items
+        → OnOk turned (AreUntouched I.view start was state.old.driver state.old.open.items)
+        → HaveForwarded I.view start was state.new.driver state.new.open.items) }
 {
     match turned {
         Ok(()) => work(state, far, limit, alloc, lists),
@@ -378,6 +393,11 @@ impl<I: Sockets, F: Far<I>> Relay<I, F> {
         ensures given { self.new.driver.given ≤ self.old.driver.given + 129 }
         ensures keyed { IsTrue I.memory → HasKeys I.view self.old.driver.handling
             → AreRegistered I.view self.new.driver self.new.listener self.new.open_ones }
+        // Over handles in memory, where each handle that somebody holds is registered, a round that is Ok forwards what it can: of each
+        // connection that was open, is open still and isn't ending, whose handles are streams, what a direction held has joined the output
+        // of its second handle; and one that held nothing holds now what waited at its first handle, 4096 bytes at most.
+        ensures forwards { OnOk result (IsTrue I.memory → HasKeys I.view self.old.driver.handling
+            → HaveForwarded I.view self.old.driver self.old.open_ones self.new.driver self.new.open_ones) }
     {
         if self.lists.reserve(self.state.open.len() + 1).is_err() {
             self.able = 0;

@@ -1,11 +1,12 @@
 // The connections of a relay with their driver, and a round of each.
-ghost use Rattle.std.specs.Prelude.{◌≡◌, ◌≤◌, ◌<◌, ◌+◌, ◌*◌, ◌-◌, [], List, ℕ, IfOk, IsPermutation, map};
+ghost use Rattle.std.specs.Prelude.{◌≡◌, ◌≤◌, ◌<◌, ◌+◌, ◌*◌, ◌-◌, [], List, ℕ, IfOk, IsPermutation, IsTrue, OnOk, map};
 ghost use Rattle.std.specs.Prelude.{slice_get, length};
 ghost use Rattle.std.specs.Vec.{vec_len, vec_capacity};
 ghost use Rattle.ready_driver.specs.Io.{IsLater};
 ghost use Rattle.ready_driver.specs.LegacyState.{LegacyState, ops_in};
 ghost use Rattle.rent_buf.specs.declared.plain.Buf.{Buf};
 ghost use Rattle.relay_net.specs.Connection.{IsOver, IsOverIf, ServedFor, near_of};
+ghost use Rattle.relay_net.specs.Forwarding.{AreUntouched, HaveForwarded, RoundBehind, RoundBut, RoundOn, RoundTo};
 ghost use Rattle.relay_net.specs.Keyed.{KeepsKeys};
 ghost use Rattle.relay_net.specs.Relay.{GoesOn, IsSound, Serving, StopsUnless, connections_in};
 ghost use Rattle.relay_net.specs.declared.connection.Connection.{Connection as Conn};
@@ -91,6 +92,9 @@ fn serve_one<I: NonBlock>(state: &mut State<I>, alloc: Global, at: usize) -> Ser
     ensures len { vec_len state.new.open ≡ vec_len state.old.open }
     ensures given { state.new.driver.given ≤ state.old.driver.given + 2 }
     ensures keyed { KeepsKeys I.view I.memory state.old.driver state.new.driver }
+    ensures forwards { IsTrue I.memory → (start : LegacyState I Buf) (was : List Conn)
+        → RoundTo I.view start was state.old.driver state.old.open.items at → RoundOn I.view start was state.new.driver
+        state.new.open.items at result }
 {
     serve(&mut state.driver, alloc, &mut state.open[at])
 }
@@ -113,6 +117,9 @@ fn close_at<I: NonBlock>(state: &mut State<I>, at: usize, ended: &mut Ended)
     ensures len { vec_len state.new.open + 1 ≡ vec_len state.old.open }
     ensures given { state.new.driver.given ≡ state.old.driver.given }
     ensures keyed { KeepsKeys I.view I.memory state.old.driver state.new.driver }
+    ensures forwards { IsTrue I.memory → (start : LegacyState I Buf) (was : List Conn)
+        → RoundBut I.view start was state.old.driver state.old.open.items at → RoundTo I.view start was state.new.driver
+        state.new.open.items at }
     ensures names { IsPermutation (connections_in state.new.open.items ended.new.closed.items ended.new.failed.items)
         (connections_in state.old.open.items ended.old.closed.items ended.old.failed.items) }
     ensures closed { (vec_len ended.new.closed ≡ vec_len ended.old.closed + 1)
@@ -142,6 +149,9 @@ fn lose_at<I: NonBlock>(state: &mut State<I>, at: usize, fault: u16, ended: &mut
     ensures len { vec_len state.new.open + 1 ≡ vec_len state.old.open }
     ensures given { state.new.driver.given ≡ state.old.driver.given }
     ensures keyed { KeepsKeys I.view I.memory state.old.driver state.new.driver }
+    ensures forwards { IsTrue I.memory → (start : LegacyState I Buf) (was : List Conn)
+        → RoundBut I.view start was state.old.driver state.old.open.items at → RoundTo I.view start was state.new.driver
+        state.new.open.items at }
     ensures names { IsPermutation (connections_in state.new.open.items ended.new.closed.items ended.new.failed.items)
         (connections_in state.old.open.items ended.old.closed.items ended.old.failed.items) }
     ensures failed { (vec_len ended.new.failed ≡ vec_len ended.old.failed + 1)
@@ -182,6 +192,9 @@ fn serve_at<I: NonBlock>(
     ensures fewer { vec_len state.new.open ≤ vec_len state.old.open }
     ensures given { state.new.driver.given ≤ state.old.driver.given + 2 }
     ensures keyed { KeepsKeys I.view I.memory state.old.driver state.new.driver }
+    ensures forwards { IsTrue I.memory → (start : LegacyState I Buf) (was : List Conn)
+        → RoundTo I.view start was state.old.driver state.old.open.items at → RoundBehind I.view start was state.new.driver
+        state.new.open.items at result }
     ensures room { (vec_len ended.new.closed + vec_len state.new.open ≤ vec_len ended.old.closed + vec_len state.old.open)
         × (vec_capacity ended.new.closed ≡ vec_capacity ended.old.closed)
         × (vec_len ended.new.failed + vec_len state.new.open ≤ vec_len ended.old.failed + vec_len state.old.open)
@@ -226,6 +239,10 @@ pub(crate) fn serve_all<I: NonBlock>(
     ensures fewer { vec_len state.new.open ≤ vec_len state.old.open }
     ensures given { state.new.driver.given ≤ state.old.driver.given + 2 * vec_len state.old.open }
     ensures keyed { KeepsKeys I.view I.memory state.old.driver state.new.driver }
+    // Over handles in memory the directions of each connection forward what they can, if the round doesn't stop.
+    ensures forwards { IsTrue I.memory → (start : LegacyState I Buf) (was : List Conn)
+        → AreUntouched I.view start was state.old.driver state.old.open.items → OnOk result (HaveForwarded I.view start was
+        state.new.driver state.new.open.items) }
 {
     let mut at = 0;
     while at < state.open.len() {

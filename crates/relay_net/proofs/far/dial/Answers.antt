@@ -2,6 +2,7 @@ use Rattle.std.proofs.Common.{ap}
 use Rattle.std.specs.FinMap as map
 use Rattle.relay_net.proofs.Opened.{opened_widens, unopened_widens}
 use Rattle.relay_net.proofs.Keyed.{opened_keys, unopened_keys}
+use Rattle.relay_net.proofs.Showing.{opened_seen, unopened_seen}
 use Rattle.relay_net.proofs.far.dial.Goals as goal
 
 pub returns-in-Ok-clause-widens : goal.returns-in-Ok-clause-widens
@@ -32,4 +33,16 @@ returns-in-Ok-clause-keyed g c =
 pub returns-in-Err-clause-keyed : goal.returns-in-Err-clause-keyed
 returns-in-Err-clause-keyed g c =
     unopened_keys g.I.NonBlock.view g.I.NonBlock.tells g.I.NonBlock.memory c.args.driver.now c.dial.new.self c.in-Err.why
+    c.in-Err.ensures.opens
+
+pub returns-in-Ok-clause-seen : goal.returns-in-Ok-clause-seen
+returns-in-Ok-clause-seen g c =
+    opened_seen g.I.NonBlock.view g.I.NonBlock.tells g.I.NonBlock.memory g.met.I.NonBlock.memory_tells c.args.driver.now c.dial.new.self
+    c.in-Ok.fd
+    c.in-Ok.ensures.opens
+
+pub returns-in-Err-clause-seen : goal.returns-in-Err-clause-seen
+returns-in-Err-clause-seen g c =
+    unopened_seen g.I.NonBlock.view g.I.NonBlock.tells g.I.NonBlock.memory g.met.I.NonBlock.memory_tells c.args.driver.now c.dial.new.self
+    c.in-Err.why
     c.in-Err.ensures.opens

@@ -4,6 +4,7 @@ use Rattle.ring_core.specs.Request.{plain_request}
 use Rattle.relay_net.proofs.Calls.{submitted_pends, submitted_stays}
 use Rattle.relay_net.proofs.Listens.{submitted_bits}
 use Rattle.relay_net.proofs.Keyed.{refused_keys, submitted_keys}
+use Rattle.relay_net.proofs.Seeing.{refused_seen, submitted_seen}
 use Rattle.relay_net.proofs.flow.submit.Goals as goal
 
 pub returns-in-Ok-clause-stays : goal.returns-in-Ok-clause-stays
@@ -32,3 +33,15 @@ pub returns-in-Err-clause-keyed : goal.returns-in-Err-clause-keyed
 returns-in-Err-clause-keyed g c =
     refused_keys g.I.NonBlock.view g.I.NonBlock.tells g.I.NonBlock.memory c.args.driver.now c.submit_op.new.self c.args.request _
     c.in-Err.ensures.submits
+
+pub returns-in-Ok-clause-seen : goal.returns-in-Ok-clause-seen
+returns-in-Ok-clause-seen g c =
+    submitted_seen g.I.NonBlock.view g.I.NonBlock.tells g.I.NonBlock.memory g.met.I.NonBlock.memory_tells c.args.driver.now
+    c.submit_op.new.self
+    (returns-in-Ok-clause-stays g c).world (returns-in-Ok-clause-bits g c)
+
+pub returns-in-Err-clause-seen : goal.returns-in-Err-clause-seen
+returns-in-Err-clause-seen g c =
+    refused_seen g.I.NonBlock.view g.I.NonBlock.tells g.I.NonBlock.memory g.met.I.NonBlock.memory_tells c.args.driver.now
+    c.submit_op.new.self
+    c.args.request _ c.in-Err.ensures.submits

@@ -3,6 +3,7 @@ use Rattle.ready_driver.specs.LegacyState.{ops_in}
 use Rattle.relay_net.specs.Relay.{FitsAccept}
 use Rattle.relay_net.proofs.Opens.{fresh_new, opening_widens}
 use Rattle.relay_net.proofs.Opened.{widens_sound}
+use Rattle.relay_net.proofs.Rounds.{untouched_widens}
 use Rattle.relay_net.proofs.opening.arrive.Goals as goal
 
 pub returns-in-Made-clause-arrives : goal.returns-in-Made-clause-arrives
@@ -78,3 +79,33 @@ returns-in-OutOfMemory-clause-opening g c = λ start was opening.
     opening_widens g.I.NonBlock.view g.I.NonBlock.tells start c.args.state.now.driver c.poll_accept.new.driver was
     c.args.state.now.open.items c.args.state.now.listener
     c.poll_accept.ensures.widens c.requires.sound.served opening
+
+pub returns-in-Waits-clause-forwards : goal.returns-in-Waits-clause-forwards
+returns-in-Waits-clause-forwards g c = λ memory start was untouched.
+    untouched_widens g.I.NonBlock.view g.I.NonBlock.tells g.I.NonBlock.memory g.met.I.NonBlock.memory_tells start c.args.state.now.driver
+    c.poll_accept.new.driver was c.args.state.now.open.items c.args.state.now.listener
+    c.poll_accept.ensures.widens c.poll_accept.ensures.seen memory c.requires.sound.served untouched
+
+pub returns-in-Made-clause-forwards : goal.returns-in-Made-clause-forwards
+returns-in-Made-clause-forwards g c = λ memory start was untouched.
+    untouched_widens g.I.NonBlock.view g.I.NonBlock.tells g.I.NonBlock.memory g.met.I.NonBlock.memory_tells start c.args.state.now.driver
+    c.poll_accept.new.driver was c.args.state.now.open.items c.args.state.now.listener
+    c.poll_accept.ensures.widens c.poll_accept.ensures.seen memory c.requires.sound.served untouched
+
+pub returns-in-Failed-clause-forwards : goal.returns-in-Failed-clause-forwards
+returns-in-Failed-clause-forwards g c = λ memory start was untouched.
+    untouched_widens g.I.NonBlock.view g.I.NonBlock.tells g.I.NonBlock.memory g.met.I.NonBlock.memory_tells start c.args.state.now.driver
+    c.poll_accept.new.driver was c.args.state.now.open.items c.args.state.now.listener
+    c.poll_accept.ensures.widens c.poll_accept.ensures.seen memory c.requires.sound.served untouched
+
+pub returns-in-Nothing-clause-forwards : goal.returns-in-Nothing-clause-forwards
+returns-in-Nothing-clause-forwards g c = λ memory start was untouched.
+    untouched_widens g.I.NonBlock.view g.I.NonBlock.tells g.I.NonBlock.memory g.met.I.NonBlock.memory_tells start c.args.state.now.driver
+    c.poll_accept.new.driver was c.args.state.now.open.items c.args.state.now.listener
+    c.poll_accept.ensures.widens c.poll_accept.ensures.seen memory c.requires.sound.served untouched
+
+pub returns-in-OutOfMemory-clause-forwards : goal.returns-in-OutOfMemory-clause-forwards
+returns-in-OutOfMemory-clause-forwards g c = λ memory start was untouched.
+    untouched_widens g.I.NonBlock.view g.I.NonBlock.tells g.I.NonBlock.memory g.met.I.NonBlock.memory_tells start c.args.state.now.driver
+    c.poll_accept.new.driver was c.args.state.now.open.items c.args.state.now.listener
+    c.poll_accept.ensures.widens c.poll_accept.ensures.seen memory c.requires.sound.served untouched

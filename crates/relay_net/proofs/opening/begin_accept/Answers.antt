@@ -4,6 +4,7 @@ use Rattle.relay_net.specs.Relay.{FitsAccept}
 use Rattle.relay_net.proofs.Opens.{opening_widens, stays_widens}
 use Rattle.relay_net.proofs.Opened.{stays_sound, widens_sound}
 use Rattle.relay_net.proofs.Listens.{at_hand_kept}
+use Rattle.relay_net.proofs.Rounds.{untouched_widens}
 use Rattle.relay_net.proofs.opening.begin_accept.Goals as goal
 
 pub returns-in-Ok-clause-sound : goal.returns-in-Ok-clause-sound
@@ -36,3 +37,17 @@ pub returns-in-Ok-clause-hand : goal.returns-in-Ok-clause-hand
 returns-in-Ok-clause-hand g c = λ told h hand.
     at_hand_kept g.I.NonBlock.view c.args.state.now.driver c.submit.new.driver h (c.in-Ok.ensures.stays.world told) (c.in-Ok.ensures.bits h)
     hand
+
+pub returns-in-Ok-clause-forwards : goal.returns-in-Ok-clause-forwards
+returns-in-Ok-clause-forwards g c = λ memory start was untouched.
+    untouched_widens g.I.NonBlock.view g.I.NonBlock.tells g.I.NonBlock.memory g.met.I.NonBlock.memory_tells start c.args.state.now.driver
+    c.submit.new.driver was c.args.state.now.open.items c.args.state.now.listener
+    (stays_widens g.I.NonBlock.view g.I.NonBlock.tells c.args.state.now.driver c.submit.new.driver c.submit.ensures.stays)
+    c.submit.ensures.seen memory c.requires.sound.served untouched
+
+pub returns-clause-forwards : goal.returns-clause-forwards
+returns-clause-forwards g c = λ memory start was untouched.
+    untouched_widens g.I.NonBlock.view g.I.NonBlock.tells g.I.NonBlock.memory g.met.I.NonBlock.memory_tells start c.args.state.now.driver
+    c.submit.new.driver was c.args.state.now.open.items c.args.state.now.listener
+    (stays_widens g.I.NonBlock.view g.I.NonBlock.tells c.args.state.now.driver c.submit.new.driver c.submit.ensures.stays)
+    c.submit.ensures.seen memory c.requires.sound.served untouched

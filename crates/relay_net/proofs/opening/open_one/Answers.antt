@@ -9,6 +9,8 @@ use Rattle.relay_net.proofs.Opens.{fresh_kept, opening_pushed, opening_widens}
 use Rattle.relay_net.proofs.Opened.{kept_sound, opened_sound, released_opening, released_sound}
 use Rattle.relay_net.proofs.Numbers.{numbers_opened}
 use Rattle.relay_net.proofs.Keyed.{keeps_then}
+use Rattle.relay_net.specs.Forwarding.{AreUntouched}
+use Rattle.relay_net.proofs.Rounds.{untouched_pushed, untouched_widens}
 use Rattle.relay_net.proofs.opening.open_one.Goals as goal
 
 pub returns-then-is_err-clause-sound : goal.returns-then-is_err-clause-sound
@@ -101,3 +103,19 @@ returns-in-Ok-clause-first g c = record {
 pub returns-in-Err-clause-keyed : goal.returns-in-Err-clause-keyed
 returns-in-Err-clause-keyed g c =
     keeps_then _ _ _ _ _ c.far.ensures.keyed c.release-in-Err.ensures.keyed
+
+pub returns-in-Ok-clause-forwards : goal.returns-in-Ok-clause-forwards
+returns-in-Ok-clause-forwards g c = λ memory start was opening untouched.
+    subst (AreUntouched g.I.NonBlock.view start was c.far.new.driver)
+    (sym (c.push_reserved.ensures.items ∙ ap (λ xs. xs ++ c.new.result ∷ []) c.reserve.ensures.items))
+    (untouched_pushed g.I.NonBlock.view g.I.NonBlock.tells g.I.NonBlock.memory g.met.I.NonBlock.memory_tells start c.far.new.driver was
+    c.args.state.now.open.items c.new.result c.args.state.now.listener
+    (opened_sound g.I.NonBlock.view g.I.NonBlock.tells c.args.state.now.driver c.far.new.driver c.args.state.now.listener
+    c.args.state.now.accept
+    c.args.state.now.open.items c.args.near c.in-Ok.far c.new.result c.requires.sound c.far.ensures.widens c.far.ensures.ops
+    c.requires.fresh c.in-Ok.ensures.far c.new.ensures.handles (c.new.ensures.fits (ops_in c.far.new.driver))).served
+    (opening_widens g.I.NonBlock.view g.I.NonBlock.tells start c.args.state.now.driver c.far.new.driver was
+    c.args.state.now.open.items c.args.state.now.listener c.far.ensures.widens c.requires.sound.served opening)
+    (untouched_widens g.I.NonBlock.view g.I.NonBlock.tells g.I.NonBlock.memory g.met.I.NonBlock.memory_tells start c.args.state.now.driver
+    c.far.new.driver was c.args.state.now.open.items c.args.state.now.listener
+    c.far.ensures.widens c.far.ensures.seen memory c.requires.sound.served untouched))

@@ -1,6 +1,9 @@
-use Rattle.relay_net.proofs.Opened.{accept_ends, accept_fails, accept_starves, accept_waits, accepted_for}
+use Rattle.relay_net.proofs.Opened.{accept_ends, accept_readable, accept_fails, accept_starves, accept_waits, accepted_for}
 use Rattle.relay_net.proofs.Listens.{accept_goes, accept_makes}
 use Rattle.relay_net.proofs.Keyed.{accepted_keys, pending_keys, starved_keys}
+use Rattle.relay_net.specs.Relay.{IsAccept}
+use Rattle.relay_net.proofs.Forwarding.{accept_reads, ended_seen, read_pends_seen, starved_seen}
+use Rattle.relay_net.proofs.Polls.{starved_waits}
 use Rattle.relay_net.proofs.opening.poll_accept.Goals as goal
 
 pub returns-in-Ok-Pending-clause-widens : goal.returns-in-Ok-Pending-clause-widens
@@ -72,3 +75,29 @@ pub returns-in-Err-clause-keyed : goal.returns-in-Err-clause-keyed
 returns-in-Err-clause-keyed g c =
     starved_keys g.I.NonBlock.view g.I.NonBlock.tells g.I.NonBlock.memory g.I.NonBlock.files g.I.Calls.called g.met.I.NonBlock.calls
     c.args.driver.now c.poll_op.new.self c.args.op _ 0 c.in-Err.ensures.polls
+
+pub returns-in-Ok-Pending-clause-seen : goal.returns-in-Ok-Pending-clause-seen
+returns-in-Ok-Pending-clause-seen g c =
+    read_pends_seen g.I.NonBlock.view g.I.NonBlock.tells g.I.NonBlock.memory g.met.I.NonBlock.memory_tells g.I.NonBlock.files
+    g.I.Calls.called
+    g.met.I.NonBlock.calls
+    c.args.driver.now c.poll_op.new.self c.args.op c.in-Ok-Pending.op c.in-Ok-Pending.field-0 0 c.args.listener
+    (IsAccept c.args.listener) c.in-Ok-Pending.field-0-is c.in-Ok-Pending.ensures.polls c.requires.pending
+    (λ request is. accept_reads request c.args.listener _ is)
+
+pub returns-in-Ok-Ready-clause-seen : goal.returns-in-Ok-Ready-clause-seen
+returns-in-Ok-Ready-clause-seen g c =
+    ended_seen g.I.NonBlock.view g.I.NonBlock.tells g.I.NonBlock.memory g.met.I.NonBlock.memory_tells g.I.NonBlock.files g.I.Calls.called
+    g.met.I.NonBlock.calls
+    c.args.driver.now c.poll_op.new.self c.args.op c.in-Ok-Ready.field-0 c.in-Ok-Ready.done 0 c.in-Ok-Ready.field-0-is
+    c.in-Ok-Ready.ensures.polls (accept_readable g.I.NonBlock.view g.I.NonBlock.tells g.I.NonBlock.memory g.I.NonBlock.files
+    g.I.Calls.called g.met.I.NonBlock.calls c.args.driver.now c.poll_op.new.self c.args.op c.in-Ok-Ready.field-0 c.in-Ok-Ready.done 0
+    c.args.listener c.in-Ok-Ready.field-0-is c.in-Ok-Ready.ensures.polls c.requires.pending)
+
+pub returns-in-Err-clause-seen : goal.returns-in-Err-clause-seen
+returns-in-Err-clause-seen g c =
+    starved_seen g.I.NonBlock.view g.I.NonBlock.tells g.I.NonBlock.memory g.met.I.NonBlock.memory_tells g.I.NonBlock.files g.I.Calls.called
+    g.met.I.NonBlock.calls
+    c.args.driver.now c.poll_op.new.self c.args.op _ 0
+    (starved_waits g.I.NonBlock.view g.I.NonBlock.tells g.I.NonBlock.memory g.I.NonBlock.files g.I.Calls.called g.met.I.NonBlock.calls
+    c.args.driver.now c.poll_op.new.self c.args.op _ 0 c.in-Err.ensures.polls).world c.in-Err.ensures.polls

@@ -61,3 +61,17 @@ returns-in_err-open_one-in-Made-clause-keyed g c =
 pub returns-in_ok-open_one-in-Made-clause-keyed : goal.returns-in_ok-open_one-in-Made-clause-keyed
 returns-in_ok-open_one-in-Made-clause-keyed g c =
     keeps_then _ _ _ _ _ c.begin_accept.ensures.keyed (keeps_then _ _ _ _ _ c.arrive.ensures.keyed c.open_one.ensures.keyed)
+
+pub returns-in-Nothing-clause-forwards : goal.returns-in-Nothing-clause-forwards
+returns-in-Nothing-clause-forwards g c = λ memory start was opening untouched.
+    c.arrive.ensures.forwards memory start was (c.begin_accept.ensures.forwards memory start was untouched)
+
+pub returns-in-Failed-clause-forwards : goal.returns-in-Failed-clause-forwards
+returns-in-Failed-clause-forwards g c = λ memory start was opening untouched.
+    c.arrive.ensures.forwards memory start was (c.begin_accept.ensures.forwards memory start was untouched)
+
+pub returns-in_ok-open_one-in-Made-clause-forwards : goal.returns-in_ok-open_one-in-Made-clause-forwards
+returns-in_ok-open_one-in-Made-clause-forwards g c = λ memory start was opening untouched.
+    c.in_ok-open_one-in-Made.ensures.forwards memory start was
+    (c.arrive.ensures.opening start was (c.begin_accept.ensures.opening start was opening))
+    (c.arrive.ensures.forwards memory start was (c.begin_accept.ensures.forwards memory start was untouched))

@@ -6,6 +6,7 @@ use Rattle.relay_net.proofs.Relays.{stops_later}
 use Rattle.std.specs.Prelude.{OnOk}
 use Rattle.relay_net.specs.Listening.{IsAtHand}
 use Rattle.relay_net.proofs.Listens.{map_ok}
+use Rattle.relay_net.specs.Forwarding.{AreUntouched}
 use Rattle.relay_net.proofs.relay.behind.Goals as goal
 
 pub returns-in-Ok-clause-stops : goal.returns-in-Ok-clause-stops
@@ -41,3 +42,10 @@ returns-in-Ok-clause-accepts g c =
     goes memory
     (subst (λ turned. OnOk turned (IsAtHand g.I.NonBlock.view c.args.state.now.driver c.args.state.now.listener)) c.in-Ok.is hand)
     places) c.work.ensures.accepts
+
+pub returns-in-Ok-clause-forwards : goal.returns-in-Ok-clause-forwards
+returns-in-Ok-clause-forwards g c =
+    map_ok c.work.result _ _ (λ goes memory start was opening untouched.
+    goes memory start was opening
+    (subst (λ turned. OnOk turned (AreUntouched g.I.NonBlock.view start was c.args.state.now.driver c.args.state.now.open.items))
+    c.in-Ok.is untouched)) c.work.ensures.forwards

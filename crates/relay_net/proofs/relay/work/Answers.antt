@@ -4,7 +4,7 @@ use Rattle.relay_net.specs.Opening.{WasOpened}
 use Rattle.relay_net.proofs.Opens.{opening_serving, opening_starts}
 use Rattle.relay_net.proofs.Opened.{accept_within, opened_becomes}
 use Rattle.relay_net.proofs.Relays.{stops_later}
-use Rattle.relay_net.proofs.Listens.{on_ok}
+use Rattle.relay_net.proofs.Listens.{ok_given, on_ok}
 use Rattle.relay_net.proofs.Keyed.{keeps_then}
 use Rattle.relay_net.proofs.relay.work.Goals as goal
 
@@ -79,3 +79,8 @@ returns-clause-accepts g c = on_ok c.serve_all.result _ c.in_ok-accept.ensures.a
 pub returns-clause-keyed : goal.returns-clause-keyed
 returns-clause-keyed g c =
     keeps_then _ _ _ _ _ c.accept.ensures.keyed c.serve_all.ensures.keyed
+
+pub returns-clause-forwards : goal.returns-clause-forwards
+returns-clause-forwards g c =
+    ok_given c.serve_all.result _ (λ from memory start was opening untouched.
+    from _ (c.serve_all.ensures.forwards memory start was (c.in_ok-accept.ensures.forwards memory start was opening untouched)))

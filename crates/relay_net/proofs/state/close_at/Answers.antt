@@ -6,6 +6,8 @@ use Rattle.std.specs.Prelude.{IsPermutation}
 use Rattle.relay_net.specs.Relay.{IsSound, Serving, connections_in}
 use Rattle.relay_net.proofs.Relays.{serving_closed, sound_removed}
 use Rattle.relay_net.proofs.Numbers.{numbers_closed}
+use Rattle.relay_net.specs.Forwarding.{RoundTo}
+use Rattle.relay_net.proofs.Rounds.{round_removed}
 use Rattle.relay_net.proofs.state.close_at.Goals as goal
 
 pub end-requires-clause-fits : goal.end-requires-clause-fits
@@ -58,3 +60,12 @@ returns-clause-names g c =
     (numbers_closed c.args.state.now.open.items c.args.at c.remove-conn.result c.args.ended.now.closed.items
     c.args.ended.now.failed.items
     (slice_get_read c.args.state.now.open.items _ c.args.at c.remove-conn.result refl c.requires.placed c.remove-conn.ensures.value)))
+
+pub returns-clause-forwards : goal.returns-clause-forwards
+returns-clause-forwards g c = λ memory start was round.
+    subst (λ all. RoundTo g.I.NonBlock.view start was c.end.new.driver all c.args.at) (sym c.remove-conn.ensures.items)
+    (round_removed g.I.NonBlock.view g.I.NonBlock.tells g.I.NonBlock.memory g.met.I.NonBlock.memory_tells start c.args.state.now.driver
+    c.end.new.driver was c.args.state.now.open.items c.args.at
+    c.remove-conn.result c.args.state.now.listener c.requires.sound.served
+    (slice_get_read c.args.state.now.open.items _ c.args.at c.remove-conn.result refl c.requires.placed c.remove-conn.ensures.value)
+    c.end.ensures.ends c.end.ensures.seen memory round)

@@ -1,9 +1,11 @@
-use Rattle.std.proofs.Common.{◌≡◌, ◌∙◌, ◌+◌, subst, arith}
+use Rattle.std.proofs.Common.{◌≡◌, ◌∙◌, ◌+◌, Ok, suc, refl, subst, arith}
 use Rattle.std.specs.Vec.{vec_len}
-use Rattle.std.proofs.lemmas.List.Sorted.{IsPermutation-trans}
+use Rattle.std.proofs.lemmas.List.Sorted.{IsPermutation-refl, IsPermutation-trans}
+use Rattle.relay_net.specs.Forwarding.{RoundBehind, RoundTo}
 use Rattle.relay_net.specs.Relay.{GoesOn}
-use Rattle.relay_net.proofs.Calls.{later_then}
-use Rattle.relay_net.proofs.Keyed.{keeps_then}
+use Rattle.relay_net.proofs.Rounds.{round_ends, round_starts}
+use Rattle.relay_net.proofs.Calls.{later_same, later_then}
+use Rattle.relay_net.proofs.Keyed.{keeps_none, keeps_then}
 use Rattle.relay_net.proofs.state.serve_all.Goals as goal
 
 pub returns-in_err-serve_at-clause-serving : goal.returns-in_err-serve_at-clause-serving
@@ -32,6 +34,7 @@ loop-at-preserved-then-branch g c =
     let cap_closed = now.room.1 in
     let room_failed = now.room.2 in
     let cap_failed = now.room.3 in
+    let next : suc c.loop-at.at ≡ c.loop-at.at + 1 = omega arith in
     record {
       sound = now.sound;
       serving = λ start was serving. now.serving start was (before.serving start was serving);
@@ -45,6 +48,10 @@ loop-at-preserved-then-branch g c =
       closed = omega (arith, closed, room_closed, cap_closed, goes);
       failed = omega (arith, failed, room_failed, cap_failed, goes);
       keyed = keeps_then _ _ _ _ _ before.keyed now.keyed;
+      forwards = λ memory start was untouched.
+          subst (λ n. RoundTo g.I.NonBlock.view start was c.serve_at.new.state.driver c.serve_at.new.state.open.items n) next
+          (subst (λ b. RoundBehind g.I.NonBlock.view start was c.serve_at.new.state.driver c.serve_at.new.state.open.items c.loop-at.at
+          (Ok b)) c.if-branch.true (c.in_ok-serve_at.ensures.forwards memory start was (before.forwards memory start was untouched)));
     }
 
 pub loop-at-preserved : goal.loop-at-preserved
@@ -79,8 +86,40 @@ loop-at-preserved g c =
       closed = omega (arith, closed, room_closed, cap_closed, goes);
       failed = omega (arith, failed, room_failed, cap_failed, goes);
       keyed = keeps_then _ _ _ _ _ before.keyed now.keyed;
+      forwards = λ memory start was untouched.
+          subst (λ b. RoundBehind g.I.NonBlock.view start was c.serve_at.new.state.driver c.serve_at.new.state.open.items c.loop-at.at
+          (Ok b)) c.if-branch.false (c.in_ok-serve_at.ensures.forwards memory start was (before.forwards memory start was untouched));
     }
 
 pub returns-in_err-serve_at-clause-keyed : goal.returns-in_err-serve_at-clause-keyed
 returns-in_err-serve_at-clause-keyed g c =
     keeps_then _ _ _ _ _ c.loop-at.invariant.keyed c.serve_at.ensures.keyed
+
+pub loop-at-init : goal.loop-at-init
+loop-at-init g c =
+    let closed = c.requires.closed in
+    let failed = c.requires.failed in
+    record {
+      sound = c.requires.sound;
+      serving = λ start was serving. serving;
+      names = IsPermutation-refl _;
+      later = later_same (g.I.NonBlock.view c.args.state.now.driver.handling.io);
+      same = (refl, refl);
+      within = omega arith;
+      fewer = omega arith;
+      given = omega arith;
+      closed = omega (arith, closed);
+      failed = omega (arith, failed);
+      keyed = keeps_none _ _ _;
+      forwards = λ memory start was untouched.
+          round_starts g.I.NonBlock.view g.I.NonBlock.tells g.I.NonBlock.memory g.met.I.NonBlock.memory_tells start
+          c.args.state.now.driver was c.args.state.now.open.items untouched;
+    }
+
+pub returns-clause-forwards : goal.returns-clause-forwards
+returns-clause-forwards g c = λ memory start was untouched.
+    let size = c.len.ensures in
+    let test = c.loop-at-test.false in
+    round_ends g.I.NonBlock.view g.I.NonBlock.tells g.I.NonBlock.memory g.met.I.NonBlock.memory_tells start c.loop-at.state.driver was
+    c.loop-at.state.open.items c.loop-at.at (omega (arith, size, test))
+    (c.loop-at.invariant.forwards memory start was untouched)

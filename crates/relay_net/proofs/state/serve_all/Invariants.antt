@@ -3,7 +3,8 @@ use Rattle.std.specs.Vec.{vec_len, vec_capacity}
 use Rattle.rent_buf.specs.declared.plain.Buf.{Buf}
 use Rattle.ready_driver.specs.Io.{IsLater}
 use Rattle.ready_driver.specs.LegacyState.{LegacyState, ops_in}
-use Rattle.std.specs.Prelude.{IsPermutation}
+use Rattle.std.specs.Prelude.{IsPermutation, IsTrue}
+use Rattle.relay_net.specs.Forwarding.{AreUntouched, RoundTo}
 use Rattle.relay_net.specs.Keyed.{KeepsKeys}
 use Rattle.relay_net.specs.Relay.{IsSound, Serving, connections_in}
 use Rattle.relay_net.specs.declared.connection.Connection.{Connection}
@@ -28,6 +29,9 @@ invariant-loop-at g l = record {
   closed : vec_len l.ended.closed + vec_len l.state.open ≤ vec_capacity l.ended.closed + l.at;
   failed : vec_len l.ended.failed + vec_len l.state.open ≤ vec_capacity l.ended.failed + l.at;
   keyed : KeepsKeys g.I.NonBlock.view g.I.NonBlock.memory l.initial.state.driver l.state.driver;
+  forwards : IsTrue g.I.NonBlock.memory → (start : LegacyState g.row.I.Denot Buf) (was : List Connection)
+      → AreUntouched g.I.NonBlock.view start was l.initial.state.driver l.initial.state.open.items
+      → RoundTo g.I.NonBlock.view start was l.state.driver l.state.open.items l.at;
 }
 
 -- Each turn serves one or ends one.

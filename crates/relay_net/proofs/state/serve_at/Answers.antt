@@ -53,3 +53,14 @@ returns-in-Closed-clause-keyed g c =
 pub returns-in-Failed-clause-keyed : goal.returns-in-Failed-clause-keyed
 returns-in-Failed-clause-keyed g c =
     keeps_then _ _ _ _ _ c.in-Failed.ensures.keyed c.lose_at.ensures.keyed
+
+pub returns-in-Open-clause-forwards : goal.returns-in-Open-clause-forwards
+returns-in-Open-clause-forwards g c = λ memory start was round. c.in-Open.ensures.forwards memory start was round
+
+pub returns-in-Closed-clause-forwards : goal.returns-in-Closed-clause-forwards
+returns-in-Closed-clause-forwards g c = λ memory start was round.
+    c.close_at.ensures.forwards memory start was (c.in-Closed.ensures.forwards memory start was round)
+
+pub returns-in-Failed-clause-forwards : goal.returns-in-Failed-clause-forwards
+returns-in-Failed-clause-forwards g c = λ memory start was round.
+    c.lose_at.ensures.forwards memory start was (c.in-Failed.ensures.forwards memory start was round)

@@ -6,6 +6,7 @@ use Rattle.relay_net.proofs.Places.{get_set}
 use Rattle.relay_net.proofs.Relays.{serving_set, sound_set}
 use Rattle.relay_net.proofs.Beside.{found_same}
 use Rattle.relay_net.proofs.Numbers.{numbers_set}
+use Rattle.relay_net.proofs.Rounds.{round_served}
 use Rattle.relay_net.proofs.state.serve_one.Goals as goal
 
 pub serve-requires-clause-fits : goal.serve-requires-clause-fits
@@ -56,3 +57,11 @@ returns-clause-names g c =
     numbers_set c.args.state.now.open.items c.args.at c.index_mut.result.now c.serve.new.conn
     (slice_get_read c.args.state.now.open.items _ c.args.at c.index_mut.result.now refl c.requires.placed c.index_mut.ensures.value)
     c.serve.ensures.serves.near
+
+pub returns-clause-forwards : goal.returns-clause-forwards
+returns-clause-forwards g c = λ memory start was round.
+    round_served g.I.NonBlock.view g.I.NonBlock.tells g.I.NonBlock.memory g.met.I.NonBlock.memory_tells start c.args.state.now.driver
+    c.serve.new.driver was c.args.state.now.open.items c.args.at
+    c.index_mut.result.now c.serve.new.conn c.serve.result c.args.state.now.listener c.requires.sound.served
+    (slice_get_read c.args.state.now.open.items _ c.args.at c.index_mut.result.now refl c.requires.placed c.index_mut.ensures.value)
+    c.serve.ensures.serves c.serve.ensures.seen memory (λ can going kept_open. c.serve.ensures.forwards memory can going kept_open) round

@@ -1,6 +1,7 @@
 use Rattle.relay_net.specs.Connection.{far_of, near_of}
 use Rattle.relay_net.proofs.Connections.{abandons_ends, ends_then, releases_near}
 use Rattle.relay_net.proofs.Keyed.{keeps_then}
+use Rattle.relay_net.proofs.Seeing.{but_near, but_then, seen_but}
 use Rattle.relay_net.proofs.connection.Connection.end.Goals as goal
 
 pub returns-clause-ends : goal.returns-clause-ends
@@ -16,3 +17,16 @@ returns-clause-ends g c =
 pub returns-clause-keyed : goal.returns-clause-keyed
 returns-clause-keyed g c =
     keeps_then _ _ _ _ _ c.abandon.ensures.keyed (keeps_then _ _ _ _ _ c.end_back.ensures.keyed c.release.ensures.keyed)
+
+pub returns-clause-seen : goal.returns-clause-seen
+returns-clause-seen g c =
+    let near = near_of c.args.self in
+    let far = far_of c.args.self in
+    but_then g.I.NonBlock.view g.I.NonBlock.tells g.I.NonBlock.memory g.met.I.NonBlock.memory_tells c.args.driver.now c.abandon.new.driver
+    c.release.new.driver
+    near far (λ h one other. c.abandon.ensures.drops.users h) c.abandon.ensures.drops.world
+    (seen_but g.I.NonBlock.view g.I.NonBlock.memory c.args.driver.now c.abandon.new.driver near far c.abandon.ensures.seen)
+    (but_then g.I.NonBlock.view g.I.NonBlock.tells g.I.NonBlock.memory g.met.I.NonBlock.memory_tells c.abandon.new.driver
+    c.end_back.new.driver
+    c.release.new.driver near far c.end_back.ensures.ends.users c.end_back.ensures.ends.world c.end_back.ensures.seen
+    (but_near g.I.NonBlock.view g.I.NonBlock.memory c.end_back.new.driver c.release.new.driver near far c.release.ensures.seen))

@@ -9,6 +9,7 @@ use Rattle.relay_net.specs.Listening.{IsAtHand, MayListen}
 use Rattle.relay_net.proofs.Listens.{map_ok, ok_through}
 use Rattle.relay_net.specs.Keyed.{HasKeys}
 use Rattle.relay_net.proofs.Keyed.{sound_registered}
+use Rattle.relay_net.specs.Forwarding.{HaveForwarded}
 use Rattle.relay_net.proofs.relay.Relay.round.Goals as goal
 
 pub returns-clause-serving : goal.returns-clause-serving
@@ -136,3 +137,17 @@ returns-clause-keyed g c = λ memory has.
     c.behind-worked.new.state.accept c.behind-worked.new.state.open.items c.behind-worked.ensures.sound
     (c.behind-worked.ensures.keyed.keys memory
     (c.turn-remote.ensures.keyed.keys memory (subst (λ d. HasKeys g.I.NonBlock.view d.handling) driver has)))
+
+pub returns-clause-forwards : goal.returns-clause-forwards
+returns-clause-forwards g c =
+    let driver : c.args.self.now.driver ≡ c.self.inside.state.driver = search rules in
+    let all : c.args.self.now.open_ones ≡ c.self.inside.state.open.items = search rules in
+    ok_through c.finish.result c.behind-worked.result _ c.finish.ensures.works
+    (map_ok c.behind-worked.result _ _ (λ goes memory has.
+    subst (λ d. HaveForwarded g.I.NonBlock.view d c.args.self.now.open_ones c.behind-worked.new.state.driver
+    c.behind-worked.new.state.open.items) (sym driver)
+    (subst (λ xs. HaveForwarded g.I.NonBlock.view c.self.inside.state.driver xs c.behind-worked.new.state.driver
+    c.behind-worked.new.state.open.items) (sym all)
+    (goes memory c.self.inside.state.driver c.self.inside.state.open.items c.turn-remote.ensures.opening
+    (map_ok c.turn-remote.result.1 _ _ (λ starts. starts memory (subst (λ d. HasKeys g.I.NonBlock.view d.handling) driver has))
+    c.turn-remote.ensures.forwards)))) c.behind-worked.ensures.forwards)
