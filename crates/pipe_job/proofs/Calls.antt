@@ -37,6 +37,7 @@ use Rattle.driver_core.specs.declared.slot.Slot.{Slot}
 use Rattle.ready_driver.specs.Calling.{Called, CallsOnce, request_in}
 use Rattle.ready_driver.specs.Io.{IoView, CallsFor, EndsFor, IsLater, made_after}
 use Rattle.pipe_job.specs.Course.{Coursed, IsNext}
+use Rattle.pipe_job.proofs.Moving.{next_is}
 use Rattle.pipe_job.specs.Waits.{FitsWait, IsOwn, NextIf}
 
 -- What an object says of its calls.
@@ -45,8 +46,16 @@ Lawful {I} view tells memory called = (old : I) (request : Request Buffer Parts)
     (answer : CallAnswer)
     → called old request new now answer → CallsFor tells memory (view old) request (view new) now answer
 
+-- Counts that are later than later ones are later.
+pub later_both : (one two three : IoView) → IsLater one two → IsLater two three → IsLater one three
+later_both one two three first second = record {
+  faults = let a = first.faults in let b = second.faults in omega (arith, a, b);
+  blocks = let a = first.blocks in let b = second.blocks in omega (arith, a, b);
+  fails = let a = first.fails in let b = second.fails in omega (arith, a, b);
+}
+
 module _ {I : Type 0} (view : I → IoView) (tells memory : Bool) (called : Called I) (law : Lawful view tells memory called) where
-  -- Counts are no later than themselves, and later ones of later ones are later.
+  -- Counts are no later than themselves.
   pub same_later : (old : IoView) → IsLater old old
   same_later old = record { faults = omega arith; blocks = omega arith; fails = omega arith }
 
@@ -202,29 +211,16 @@ module _ {I : Type 0} (view : I → IoView) (tells memory : Bool) (called : Call
           new.handling.records op.number task back unmet ends.0.room ends.0.leaves))
 
 -- A job's next request makes no handle.
-pub moves_makes : (course : Coursed) (request : Request Buffer Parts) → IsNext course request → makes request ≡ false
-moves_makes course (request.Recv fd buf) moves = refl
-moves_makes course (request.Send fd buf) moves = refl
-moves_makes course (request.ReadVec fd parts) moves = absurd moves
-moves_makes course (request.WriteVec fd parts) moves = absurd moves
-moves_makes course (request.RecvMsg fd buf) moves = absurd moves
-moves_makes course (request.SendMsg fd addr buf) moves = absurd moves
-moves_makes course (request.Read fd pos buf) moves = absurd moves
-moves_makes course (request.Write fd pos buf) moves = absurd moves
-moves_makes course (request.SpliceTo fd to len) moves = absurd moves
-moves_makes course (request.SpliceFrom from fd len) moves = absurd moves
-moves_makes course (request.Accept fd) moves = absurd moves
-moves_makes course (request.Open path flags mode) moves = absurd moves
-moves_makes course (request.Connect fd addr) moves = absurd moves
-moves_makes course (request.Fsync fd data_only) moves = absurd moves
-moves_makes course (request.PollAdd fd read) moves = absurd moves
-moves_makes course (request.MkDir path mode) moves = absurd moves
-moves_makes course (request.Rename from to) moves = absurd moves
-moves_makes course (request.Unlink path remove_dir) moves = absurd moves
+pub moves_makes : (course : Coursed) (request : Request Rented Parts) → IsNext course (plain_request buffer_of_rent request)
+    → makes (plain_request buffer_of_rent request) ≡ false
+moves_makes course request next = elim (next_is course request next) [
+  | inl receive ↦ ap (λ r. makes (plain_request buffer_of_rent r)) receive.1
+  | inr send ↦ ap (λ r. makes (plain_request buffer_of_rent r)) send.1
+]
 
 -- Its call leaves how many handles an object made.
-made_stays : (course : Coursed) (asked now : Request Buffer Parts) (call : Outcome) (made : ℕ) → IsNext course asked
-    → EndsFor asked now call
+made_stays : (course : Coursed) (asked : Request Rented Parts) (now : Request Buffer Parts) (call : Outcome) (made : ℕ)
+    → IsNext course (plain_request buffer_of_rent asked) → EndsFor (plain_request buffer_of_rent asked) now call
     → made_after call made ≡ made
 made_stays course asked now (Count k) made moves ends = refl
 made_stays course asked now (From k addr) made moves ends = refl
@@ -242,7 +238,7 @@ module _ {I : Type 0} (view : I → IoView) (tells memory : Bool) (called : Call
   call_makes true course slot new before after done moves (inr made) =
       let does = law before (plain_request buffer_of_rent made.request) after (plain_request buffer_of_rent done.request)
       (Done done.outcome) made.calls in
-      does.made ∙ made_stays course (plain_request buffer_of_rent made.request) (plain_request buffer_of_rent done.request) done.outcome
+      does.made ∙ made_stays course made.request (plain_request buffer_of_rent done.request) done.outcome
       (view before).made (subst (NextIf course) made.asked moves) does.ends
 
   -- Nor did the poll in which it failed.
@@ -277,14 +273,6 @@ module _ {I : Type 0} (view : I → IoView) (tells memory : Bool) (called : Call
       (subst (ErrorFor old.handling.table (map.get old.slots.values op.key) (view old.handling.io) (view new.handling.io)) is fails)
       (poll_makes files old new op task course done e ends is fits.2.moves) fits.2
 
-  -- Counts of two calls in a row.
-  both_later : (one two three : IoView) → IsLater one two → IsLater two three → IsLater one three
-  both_later one two three first second = record {
-    faults = let a = first.faults in let b = second.faults in omega (arith, a, b);
-    blocks = let a = first.blocks in let b = second.blocks in omega (arith, a, b);
-    fails = let a = first.fails in let b = second.fails in omega (arith, a, b);
-  }
-
   -- The object's counts don't fall as a handle that was made becomes its user's.
   tries_later : (taken : Bool) (h : ℕ) (old new : IoView) → TriesFor tells memory h old new taken → IsLater old new
   tries_later true h old new tries = tries.0.later
@@ -309,10 +297,10 @@ module _ {I : Type 0} (view : I → IoView) (tells memory : Bool) (called : Call
       (unless (files old.handling.io) (slot_awaits (map.get old.slots.values op.key))))
       (map.get old.slots.values op.key) (map.get new.slots.values op.key) old.handling.io new.handling.io (Err error) ends.2
   poll_later files old new op task (Ok (Ready done)) ends =
-      both_later (view old.handling.io) (view ends.mid.io) (view new.handling.io)
+      later_both (view old.handling.io) (view ends.mid.io) (view new.handling.io)
       (called_later view tells memory called law (is_met_at old.handling.records
       (unless (files old.handling.io) (slot_awaits (map.get old.slots.values op.key))))
       (map.get old.slots.values op.key) (map.get new.slots.values op.key) old.handling.io ends.mid.io
       (Ok (Ready (record done { outcome = ends.call }))) ends.calls)
-      (both_later (view ends.mid.io) (view ends.handed.io) (view new.handling.io)
+      (later_both (view ends.mid.io) (view ends.handed.io) (view new.handling.io)
       (hands_later ends.mid ends.handed (made_by done.outcome) ends.hands) ends.lets.object.later)

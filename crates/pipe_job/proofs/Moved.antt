@@ -1,7 +1,7 @@
 -- What a call of a job's operation brings the job, by the request that came back, and what is so of its pipe where it is a fault.
 use Rattle.std.proofs.Common.{ℕ, ◌≡◌, ◌≢◌, ◌∙◌, ◌≤◌, ◌<◌, ◌+◌, ◌⊎◌, ap, sym, refl, subst, arith, Bool, true, false, true≢false, IsTrue}
 use Rattle.std.proofs.Common.{inl, inr, List, [], ◌++◌, length, take, drop, Some, take-add}
-use Rattle.std.proofs.lemmas.List.{append_assoc, append-nil, length-drop, length-take}
+use Rattle.std.proofs.lemmas.List.{take_all, append_assoc, append-nil, length-drop, length-take}
 use Rattle.rent_buf.specs.Buffer.{Buffer}
 use Rattle.rent_buf.specs.Parts.{Parts}
 use Rattle.rent_buf.specs.Rent.{Rented, buffer_of_rent}
@@ -108,6 +108,7 @@ pub record Counted (tells : Bool) (old new : IoView) (was is : Coursed) (dir : D
   pub got : List ℕ
   pub sends : sent_in is ≡ sent_in was ++ sent
   pub gets : received_in is ≡ received_in was ++ got
+  pub after : got ≢ [] → sent_in is ≡ is.bytes
   pub out : sent ≢ [] → dir ≡ towards.Write
   pub into : got ≢ [] → dir ≡ towards.Read
   pub file : IsTrue tells → is_file_at old.world was.pipe ≡ false
@@ -117,10 +118,11 @@ pub record Counted (tells : Bool) (old new : IoView) (was is : Coursed) (dir : D
 
 module _ (tells memory : Bool) (old new : IoView) (was is : Coursed) (same : IsSameBytes was is) where
   -- A receive.
-  received : (buf after : Rented) (g k : ℕ) → received_in is ≡ received_in was ++ after.bytes → is.sent ≡ was.sent
+  received : (buf after : Rented) (g k : ℕ) → was.sent ≡ length was.bytes → received_in is ≡ received_in was ++ after.bytes
+      → is.sent ≡ was.sent
       → IsMade tells memory old (Recv was.pipe (buffer_of_rent buf)) new (Recv g (buffer_of_rent after)) (Count k)
       → Counted tells old new was is towards.Read
-  received buf after g k gets sent made =
+  received buf after g k all gets sent made =
       let moves : IsTrue tells → ReceiveMoves old.world new.world was.pipe (buffer_of_rent buf) (Recv g (buffer_of_rent after)) k =
       λ t. receive_moves old.world new.world was.pipe (buffer_of_rent buf) (Recv g (buffer_of_rent after)) k (made.moved t) in
       record {
@@ -128,6 +130,7 @@ module _ (tells memory : Bool) (old new : IoView) (was is : Coursed) (same : IsS
         got = after.bytes;
         sends = ap (λ n. take n is.bytes) sent ∙ ap (take was.sent) same.bytes ∙ sym (append-nil (sent_in was));
         gets = gets;
+        after = λ some. take_all is.sent is.bytes (let size = ap length same.bytes in omega (arith, all, sent, size));
         out = λ none. absurd (none refl);
         into = λ some. refl;
         file = λ t. flows_unfiled old.world was.pipe (moves t).may.flows;
@@ -156,6 +159,7 @@ module _ (tells memory : Bool) (old new : IoView) (was is : Coursed) (same : IsS
         sends = ap (λ n. take n is.bytes) count ∙ ap (take (was.sent + k)) same.bytes ∙ take-add was.sent k was.bytes
             ∙ ap (λ bs. sent_in was ++ bs) (sym front);
         gets = ap (λ n. take n is.bytes) got ∙ ap (take was.received) same.bytes ∙ sym (append-nil (received_in was));
+        after = λ none. absurd (none refl);
         out = λ some. refl;
         into = λ none. absurd (none refl);
         file = λ t. flows_unfiled old.world was.pipe (moves t).may.flows;
@@ -202,7 +206,7 @@ module _ (tells memory : Bool) (old new : IoView) (was is : Coursed) (same : IsS
         | inl asked ↦ record {
           dir = towards.Read;
           awaited = ap awaits asked.1;
-          counted = received asked.0 after g k brings.0 brings.1
+          counted = received asked.0 after g k asked.2 brings.0 brings.1
               (subst (λ r. IsMade tells memory old (plain_request buffer_of_rent r) new (Recv g (buffer_of_rent after))
               (Count k)) asked.1 made);
         }
@@ -295,7 +299,7 @@ module _ (tells memory : Bool) (old new : IoView) (was : Coursed) where
       → FailsBy was call now why → ToldFault tells old new was why
   fault_told (Fail e) request now why next made fails = subst (ToldFault tells old new was) (sym fails) tt
   fault_told (Made h) request now why next made fails =
-      absurd (true≢false (sym made.ends.0 ∙ moves_makes was (plain_request buffer_of_rent request) next))
+      absurd (true≢false (sym made.ends.0 ∙ moves_makes was request next))
   fault_told (From k addr) request now why next made fails = subst (ToldFault tells old new was) (sym fails) (λ t own.
       no_message request next (made.moved t))
     where
@@ -334,7 +338,7 @@ module _ (tells memory : Bool) (old new : IoView) (was : Coursed) where
           → IsMade tells memory old (plain_request buffer_of_rent request) new (Recv g (buffer_of_rent after)) (Count k)
           → FailsBy was (Count k) (Recv g after) why → ToldFault tells old new was why
       receive_back g after made fails = elim (next_is was request next) [
-        | inl asked ↦ receive_told asked.0 after g k why asked.2
+        | inl asked ↦ receive_told asked.0 after g k why asked.3
             (subst (λ r. IsMade tells memory old (plain_request buffer_of_rent r) new (Recv g (buffer_of_rent after))
             (Count k)) asked.1 made) fails
         | inr asked ↦ absurd (send_shape tells memory old new was was (record { pipe = refl; bytes = refl }) asked.0 after was.pipe g k

@@ -36,10 +36,11 @@ use Rattle.pipe_job.specs.declared.course.TheConstants.{MOST_MOVED}
 
 -- A job's next request is a receive from its pipe, or a send to it.
 pub next_is : (course : Coursed) (request : Request Rented Parts) → IsNext course (plain_request buffer_of_rent request)
-    → ((buf : Rented) × (request ≡ Recv course.pipe buf) × (1 ≤ held_want (One (buffer_of_rent buf))))
+    → ((buf : Rented) × (request ≡ Recv course.pipe buf) × (course.sent ≡ length course.bytes)
+    × (1 ≤ held_want (One (buffer_of_rent buf))))
     ⊎ ((buf : Rented) × (request ≡ Send course.pipe buf) × (course.sent < length course.bytes)
     × (sent_of (Send course.pipe (buffer_of_rent buf)) ≡ take MOST_MOVED (drop course.sent course.bytes)))
-next_is course (Recv fd buf) next = inl (buf, ap (λ h. Recv h buf) next.0, next.1)
+next_is course (Recv fd buf) next = inl (buf, ap (λ h. Recv h buf) next.0, next.1, next.2)
 next_is course (Send fd buf) next = inr (buf, ap (λ h. Send h buf) next.0, next.1, next.2)
 next_is course (ReadVec fd parts) next = absurd next
 next_is course (WriteVec fd parts) next = absurd next
@@ -130,6 +131,7 @@ pub record SendMoves (old new : List HandleState) (h : ℕ) (buf : Buffer) (k : 
   pub world : new ≡ amended old h (with_sent (take k (sent_of (Send h buf))))
   pub may : MaySend old h (length (sent_of (Send h buf))) k
 
+-- So it is of each send that moved what the machine moves.
 pub send_moves : (old new : List HandleState) (h : ℕ) (buf : Buffer) (now : Request Buffer Parts) (k : ℕ)
     → IsMoved old (Send h buf) new now (Count k) → SendMoves old new h buf k
 send_moves old new h buf now k moved = by moved.told refl
@@ -152,6 +154,7 @@ pub record ReceiveMoves (old new : List HandleState) (h : ℕ) (buf : Buffer) (n
   pub may : MayReceive old h (held_want (One buf)) k
   pub holds : held_of now ≡ One (stored buf (take k (input_at old h)))
 
+-- So it is of each receive that did.
 pub receive_moves : (old new : List HandleState) (h : ℕ) (buf : Buffer) (now : Request Buffer Parts) (k : ℕ)
     → IsMoved old (Recv h buf) new now (Count k) → ReceiveMoves old new h buf now k
 receive_moves old new h buf now k moved = by moved.told refl
@@ -223,10 +226,12 @@ kind_kept change world h keeps = ap (passes (λ handle. is_pipe handle.kind)) (g
     by None = refl
     by (Some handle) = ap is_pipe (keeps handle)
 
+-- Bytes that are sent to it keep it.
 pub kind_sent : (bytes : List ℕ) (world : List HandleState) (h : ℕ)
     → is_pipe_at (amended world h (with_sent bytes)) h ≡ is_pipe_at world h
 kind_sent bytes world h = kind_kept (with_sent bytes) world h (λ handle. sent_kind bytes handle.kind handle)
 
+-- So do bytes that leave its input.
 pub kind_taken : (k : ℕ) (world : List HandleState) (h : ℕ) → is_pipe_at (amended world h (without_front k)) h ≡ is_pipe_at world h
 kind_taken k world h = kind_kept (without_front k) world h (λ handle. refl)
 
@@ -238,6 +243,7 @@ input_rest zero None = refl
 input_rest (suc k) None = refl
 input_rest k (Some handle) = refl
 
+-- So what waited is what left, and then what waits.
 pub taken_input : (k : ℕ) (world : List HandleState) (h : ℕ)
     → input_at world h ≡ take k (input_at world h) ++ input_at (amended world h (without_front k)) h
 taken_input k world h = sym (take-append-drop k (input_at world h))
@@ -257,6 +263,7 @@ spent_of handle want k may some none =
     let spent : is_spent handle ≡ true = (let test = first.1 in search (arith, nat_tests)) in
     subst (λ n. is_spent (without_front n handle) ≡ true) (sym nought) spent
 
+-- So it is of the handle of a number.
 pub ended_still : (world : List HandleState) (h want k : ℕ) → MayReceive world h want k → 1 ≤ want → take k (input_at world h) ≡ []
     → HasEnded (amended world h (without_front k)) h
 ended_still world h want k may some none =
@@ -275,7 +282,7 @@ unfit_ends true fits why rest at_once unfit none = true≢false at_once
 unfit_ends false true why rest at_once unfit none = true≢false unfit
 unfit_ends false false why rest at_once unfit none = cc
 
--- So a receive from a file doesn't, nor a send to it.
+-- A file gives no bytes in order.
 file_kind : (kind : HandleKind) → is_file kind ≡ true → gives_bytes kind ≡ false
 file_kind File one = refl
 file_kind Stream one = absurd (true≢false (sym one))
@@ -283,21 +290,25 @@ file_kind Datagram one = absurd (true≢false (sym one))
 file_kind Pipe one = absurd (true≢false (sym one))
 file_kind Listener one = absurd (true≢false (sym one))
 
+-- So no file gives bytes,
 file_gives : (found : Option HandleState) → passes (λ handle. is_file handle.kind) found ≡ true
     → passes (λ handle. gives_bytes handle.kind) found ≡ false
 file_gives None one = refl
 file_gives (Some handle) one = file_kind handle.kind one
 
+-- and each is read at once.
 file_reads : (found : Option HandleState) → passes (λ handle. is_file handle.kind) found ≡ true → not (passes reads_at_once found) ≡ false
 file_reads None one = absurd (true≢false (sym one))
 file_reads (Some handle) one = ap (λ b. not (b || is_readable handle)) one
 
+-- So a receive from a file doesn't block,
 pub file_receives : (world : List HandleState) (h : ℕ) (buf : Rented) → is_file_at world h ≡ true
     → attempt world (call_of (Recv h (buffer_of_rent buf))) ≡ None → ⊥
 file_receives world h buf one none =
     unfit_ends (not (passes reads_at_once (slice_get world h))) (passes (λ handle. gives_bytes handle.kind) (slice_get world h)) _ _
     (file_reads (slice_get world h) one) (file_gives (slice_get world h) one) none
 
+-- nor does a send to it.
 pub file_sends : (world : List HandleState) (h : ℕ) (buf : Rented) → is_file_at world h ≡ true
     → attempt world (call_of (Send h (buffer_of_rent buf))) ≡ None → ⊥
 file_sends world h buf one none =

@@ -67,8 +67,8 @@ same_outcome : (table : Table) (call : Outcome) → made_by call ≡ None → ou
 same_outcome table call none = ap (outcome_by table call) none
 
 -- That of a job's next request made none.
-unmade : (was : Coursed) (call : Outcome) (request now : Request Buffer Parts) → IsNext was request → EndsFor request now call
-    → made_by call ≡ None
+unmade : (was : Coursed) (call : Outcome) (request : Request Rented Parts) (now : Request Buffer Parts)
+    → IsNext was (plain_request buffer_of_rent request) → EndsFor (plain_request buffer_of_rent request) now call → made_by call ≡ None
 unmade was (Count k) request now next ends = refl
 unmade was (From k addr) request now next ends = refl
 unmade was (Fail e) request now next ends = refl
@@ -112,7 +112,7 @@ module _ {I : Type 0} (files : I → ℕ → Bool) (view : I → IoView) (tells 
   made_none : made_by ends.call ≡ None
   made_none = elim called_one [
     | inl canceled ↦ ap made_by canceled
-    | inr one ↦ unmade was ends.call (plain_request buffer_of_rent one.request) (plain_request buffer_of_rent done.request) one.next
+    | inr one ↦ unmade was ends.call one.request (plain_request buffer_of_rent done.request) one.next
         one.made.ends
   ]
 
@@ -164,6 +164,7 @@ module _ {I : Type 0} (files : I → ℕ → Bool) (view : I → IoView) (tells 
             };
             sends = c.counted.sends;
             gets = c.counted.gets;
+            after = c.counted.after;
             kind = λ t. ap (λ w. is_pipe_at w was.pipe) (left t) ∙ c.counted.kind t;
             unmet = others.unmet was.pipe;
           }

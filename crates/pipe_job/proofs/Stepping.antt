@@ -1,8 +1,8 @@
 -- What the steps of a job's poll do one after the other.
 use Rattle.std.proofs.Common.{ℕ, ◌≡◌, ◌≢◌, ◌≤◌, ◌∙◌, ◌⊎◌, ap, sym, refl, subst, Bool, true, false, true≢false, IsTrue, Ok, Err, arith, inl}
 use Rattle.std.proofs.Common.{inr}
-use Rattle.std.proofs.Common.{List, [], ◌∷◌, ◌++◌, None, Result}
-use Rattle.std.proofs.lemmas.List.{append_assoc, append-nil}
+use Rattle.std.proofs.Common.{List, [], ◌∷◌, ◌++◌, length, None, Result}
+use Rattle.std.proofs.lemmas.List.{append_assoc, append-nil, length-append, length-take}
 use Rattle.rent_buf.specs.Parts.{Parts}
 use Rattle.rent_buf.specs.Rent.{Rented}
 use Rattle.rent_buf.specs.Counts.{Rose}
@@ -33,19 +33,12 @@ use Rattle.pipe_job.specs.declared.step.Wait.{Wait}
 use Rattle.pipe_job.specs.declared.step.Wait.TheVariants.{Room, Waiting}
 use Rattle.pipe_job.specs.declared.step.Step.{Step}
 use Rattle.pipe_job.specs.declared.step.Step.TheVariants as step
+use Rattle.pipe_job.proofs.Calls.{later_both}
 use Rattle.pipe_job.proofs.Bytes.{whole_received, whole_sent}
 use Rattle.pipe_job.proofs.Frames.{same_fit}
 use Rattle.pipe_job.proofs.Moved.{joining_none}
 use Rattle.pipe_job.proofs.Resting.{own_both, rest_both, same_rest}
 use Rattle.pipe_job.proofs.Staying.{same_stays}
-
--- Counts that are later than later ones are later.
-pub later_both : (one two three : IoView) → IsLater one two → IsLater two three → IsLater one three
-later_both one two three first second = record {
-  faults = let a = first.faults in let b = second.faults in omega (arith, a, b);
-  blocks = let a = first.blocks in let b = second.blocks in omega (arith, a, b);
-  fails = let a = first.fails in let b = second.fails in omega (arith, a, b);
-}
 
 -- A count that rose since a later call rose since an earlier one.
 rose_since : (one two three : ℕ) → one ≤ two → Rose two three → Rose one three
@@ -55,6 +48,18 @@ rose_since one two three first rose = omega (arith, first, rose)
 some_in : (xs ys : List ℕ) → xs ++ ys ≢ [] → (xs ≢ []) ⊎ (ys ≢ [])
 some_in [] ys some = inr some
 some_in (x ∷ xs) ys some = inl (λ none. absurd cc)
+
+-- All bytes were sent already, so that no more are.
+all_still : (was is bytes now more : List ℕ) → was ≡ bytes → is ≡ was ++ more → now ≡ bytes → length is ≤ length now → is ≡ now
+all_still was is bytes now more all sends same few =
+    let size = ap length sends ∙ length-append was more in
+    let whole = ap length all in
+    let before = ap length same in
+    sends ∙ ap (λ bs. was ++ bs) (none_left more (omega (arith, size, whole, before, few))) ∙ append-nil was ∙ all ∙ sym same
+  where
+    none_left : (xs : List ℕ) → length xs ≡ 0 → xs ≡ []
+    none_left [] none = refl
+    none_left (x ∷ xs) none = absurd cc
 
 -- A bit that no call brought was there before.
 bit_before : (before after : Bool) → (before ≡ false → after ≡ false) → after ≡ true → before ≡ true
@@ -121,6 +126,7 @@ module _ {I : Type 0} (files : I → ℕ → Bool) (view : I → IoView) (tells 
     };
     sends = sym (append-nil (sent_in c));
     gets = sym (append-nil (received_in c));
+    after = λ none. absurd (none refl);
     kind = λ t. ap (λ w. is_pipe_at w c.pipe) (world t);
     unmet = unmet;
   }
@@ -151,6 +157,12 @@ module _ {I : Type 0} (files : I → ℕ → Bool) (view : I → IoView) (tells 
     };
     sends = bytes_both (sent_in was) (sent_in mid) (sent_in is) first.moves.sent second.moves.sent first.sends second.sends;
     gets = bytes_both (received_in was) (received_in mid) (received_in is) first.moves.got second.moves.got first.gets second.gets;
+    after = λ some. elim (some_in first.moves.got second.moves.got some) [
+      | inl here ↦ all_still (sent_in mid) (sent_in is) mid.bytes is.bytes second.moves.sent
+          (first.after here) second.sends second.same.bytes
+          (let size = length-take is.sent is.bytes in omega (arith, size))
+      | inr there ↦ second.after there
+    ];
     kind = λ t. subst (λ p. is_pipe_at (view new.handling.io).world p ≡ is_pipe_at (view then.handling.io).world p) first.same.pipe
         (second.kind t) ∙ first.kind t;
     unmet = λ dir none. subst (λ p. MeetsNone then.handling.records p dir → MeetsNone new.handling.records p dir) first.same.pipe

@@ -1,5 +1,5 @@
 -- What a submission of a job leaves, and why one is refused.
-use Rattle.std.proofs.Common.{◌≡◌, ◌∙◌, ap, sym, subst, Bool, [], ◌∷◌, None, inl}
+use Rattle.std.proofs.Common.{◌≡◌, ◌∙◌, ap, sym, subst, Bool, [], ◌∷◌, None, inl, inr}
 use Rattle.std.specs.FinMap as map
 use Rattle.rent_buf.specs.Parts.{Parts}
 use Rattle.rent_buf.specs.Rent.{Rented, buffer_of_rent}
@@ -15,30 +15,17 @@ use Rattle.driver_core.specs.declared.op.SubmitFault.TheVariants.{Full, RingFaul
 use Rattle.ready_driver.specs.Io.{IoView, IsLater}
 use Rattle.ready_driver.specs.LegacyCalls.{JoinsOp, SubmitRefused, WhyRefused}
 use Rattle.ready_driver.specs.LegacyState.{LegacyState, live_slots}
+use Rattle.pipe_job.proofs.Moving.{next_is}
 use Rattle.pipe_job.specs.Causes.{TakesNone}
 use Rattle.pipe_job.specs.Course.{Coursed, IsNext}
 
 -- A job's next request names just its pipe.
 pub moves_named : (course : Coursed) (request : Request Rented Parts) → IsNext course (plain_request buffer_of_rent request)
     → named request ≡ course.pipe ∷ []
-moves_named course (Recv fd buf) moves = ap (λ h. h ∷ []) moves.0
-moves_named course (Send fd buf) moves = ap (λ h. h ∷ []) moves.0
-moves_named course (ReadVec fd parts) moves = absurd moves
-moves_named course (WriteVec fd parts) moves = absurd moves
-moves_named course (RecvMsg fd buf) moves = absurd moves
-moves_named course (SendMsg fd addr buf) moves = absurd moves
-moves_named course (Read fd pos buf) moves = absurd moves
-moves_named course (Write fd pos buf) moves = absurd moves
-moves_named course (SpliceTo fd to len) moves = absurd moves
-moves_named course (SpliceFrom from fd len) moves = absurd moves
-moves_named course (Accept fd) moves = absurd moves
-moves_named course (Open path flags mode) moves = absurd moves
-moves_named course (Connect fd addr) moves = absurd moves
-moves_named course (Fsync fd data_only) moves = absurd moves
-moves_named course (PollAdd fd read) moves = absurd moves
-moves_named course (MkDir path mode) moves = absurd moves
-moves_named course (Rename from to) moves = absurd moves
-moves_named course (Unlink path remove_dir) moves = absurd moves
+moves_named course request next = elim (next_is course request next) [
+  | inl receive ↦ ap named receive.1
+  | inr send ↦ ap named send.1
+]
 
 module _ {I : Type 0} (view : I → IoView) (tells memory : Bool) where
   -- The object's counts don't fall in a submission.

@@ -42,10 +42,10 @@ pub record IsWhole (c : Coursed) : Type 0 where
   pub all_sent : c.sent ≡ length c.bytes
   pub all_received : c.received ≡ length c.bytes
 
--- A request is a job's next one: it receives one byte at least from the job's pipe, or sends the next bytes to it that the job hasn't sent,
--- `MOST_MOVED` at most.
+-- A request is a job's next one: it sends the next bytes that weren't sent to the job's pipe, `MOST_MOVED` at most; or, once all are sent,
+-- it receives one at least.
 abbrev pub IsNext : Coursed → Request Buffer Parts → Type 0
-IsNext c (Recv fd buf) = (fd ≡ c.pipe) × (1 ≤ held_want (One buf))
+IsNext c (Recv fd buf) = (fd ≡ c.pipe) × (c.sent ≡ length c.bytes) × (1 ≤ held_want (One buf))
 IsNext c (Send fd buf) =
     (fd ≡ c.pipe) × (c.sent < length c.bytes) × (sent_of (Send fd buf) ≡ take MOST_MOVED (drop c.sent c.bytes))
 IsNext c _ = ⊥

@@ -37,12 +37,14 @@ pub record MovesBytes {I : Type 0} (view : I → IoView) (tells memory : Bool) (
   pub line : IsTrue tells → input_at (view old.handling.io).world pipe ++ joining (is_pipe_at (view old.handling.io).world pipe) sent
       ≡ got ++ input_at (view new.handling.io).world pipe
 
--- How far a job came between two moments of a poll, by what it sent and received. Its pipe stays of its kind, and no bit comes to it.
+-- How far a job came between two moments of a poll, by what it sent and received: it receives only once all its bytes are sent. Its pipe
+-- stays of its kind, and no bit comes to it.
 pub record MovesOn {I : Type 0} (view : I → IoView) (tells memory : Bool) (was is : Coursed) (old new : LegacyState I Rented) : Type 0 where
   pub same : IsSameBytes was is
   pub moves : MovesBytes view tells memory was.pipe old new
   pub sends : sent_in is ≡ sent_in was ++ moves.sent
   pub gets : received_in is ≡ received_in was ++ moves.got
+  pub after : moves.got ≢ [] → sent_in is ≡ is.bytes
   pub kind : IsTrue tells → is_pipe_at (view new.handling.io).world was.pipe ≡ is_pipe_at (view old.handling.io).world was.pipe
   pub unmet : (dir : Direction) → MeetsNone old.handling.records was.pipe dir → MeetsNone new.handling.records was.pipe dir
 

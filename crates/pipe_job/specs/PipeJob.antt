@@ -1,5 +1,5 @@
 -- A job over a pipe, and the driver that it fits. Cited by `PipeJob`.
-use Rattle.std.specs.Prelude.{ℕ, ◌≡◌, Bool, List, ◌++◌, Result, Ok, Err, IsOk}
+use Rattle.std.specs.Prelude.{ℕ, ◌≡◌, ◌≢◌, Bool, List, [], ◌++◌, Result, Ok, Err, IsOk}
 use Rattle.rent_buf.specs.Rent.{Rented}
 use Rattle.rent_buf.specs.declared.fault.IoFault.{IoFault}
 use Rattle.rent_buf.specs.declared.fault.OutOfMemory.{OutOfMemory}
@@ -85,6 +85,10 @@ LeavesPipe old new job = LeavesRest old new job.wait
 abbrev pub IsNewPipe : ℕ → PipeJob → PipeJob → Type 0
 IsNewPipe given job next = IsOwnOrNew given job.wait next.wait
 
+-- A poll of a job that has no bytes, and no operation, is done.
+abbrev pub EndsEmpty : PipeJob → JobStep PipeJob (Result (List ℕ) IoFault) → Type 0
+EndsEmpty was result = IsIdle was → aim_of was ≡ [] → result ≡ job.Done (Ok [])
+
 -- The causes of the fault that a poll of a job ends with, if it does.
 abbrev pub EndsJob : {I : Type 0} → (I → IoView) → Bool → LegacyState I Rented → LegacyState I Rented → PipeJob
     → JobStep PipeJob (Result (List ℕ) IoFault) → Type 0
@@ -94,8 +98,8 @@ EndsJob view tells old new was (job.Done (Err fault)) =
 EndsJob view tells old new was (job.Pending next) = Unit {0}
 EndsJob view tells old new was (job.OutOfMemory next) = Unit {0}
 
--- What a poll sends and receives joins what the job had sent and received before. With it, one that is done without a fault has sent all
--- its bytes, and its output is what it has received.
+-- What a poll sends and receives joins what the job had sent and received before, and it receives only once all its bytes are sent. One
+-- that is done without a fault has sent all, with what this poll sent, and its output is what it has received.
 abbrev pub MovesJob : {I : Type 0} → (I → IoView) → Bool → Bool → LegacyState I Rented → LegacyState I Rented → PipeJob
     → JobStep PipeJob (Result (List ℕ) IoFault) → Type 0
 MovesJob view tells memory old new was (job.Done (Ok bytes)) = (moves : MovesBytes view tells memory was.course.pipe old new)
@@ -103,8 +107,10 @@ MovesJob view tells memory old new was (job.Done (Ok bytes)) = (moves : MovesByt
 MovesJob view tells memory old new was (job.Done (Err fault)) = Unit {0}
 MovesJob view tells memory old new was (job.Pending next) = (moves : MovesBytes view tells memory was.course.pipe old new)
     × (sent_of next ≡ sent_of was ++ moves.sent) × (received_of next ≡ received_of was ++ moves.got)
+    × (moves.got ≢ [] → sent_of next ≡ aim_of next)
 MovesJob view tells memory old new was (job.OutOfMemory next) = (moves : MovesBytes view tells memory was.course.pipe old new)
     × (sent_of next ≡ sent_of was ++ moves.sent) × (received_of next ≡ received_of was ++ moves.got)
+    × (moves.got ≢ [] → sent_of next ≡ aim_of next)
 
 -- Why a job is pending behind a poll, if it is.
 abbrev pub WaitsJob : {I : Type 0} → (I → IoView) → LegacyState I Rented → LegacyState I Rented

@@ -1,5 +1,5 @@
 -- What a step of a job's poll does, and what all its steps so far. Cited by `step` and `PipeJob`.
-use Rattle.std.specs.Prelude.{ℕ, Bool, Result, Ok, Err}
+use Rattle.std.specs.Prelude.{ℕ, ◌≡◌, Bool, [], Result, Ok, Err}
 use Rattle.rent_buf.specs.Rent.{Rented}
 use Rattle.rent_buf.specs.declared.fault.IoFault.{IoFault}
 use Rattle.core_exec.specs.declared.job.JobStep.{JobStep}
@@ -63,3 +63,7 @@ StepFor was is done (Pending wait) = ⊥
 StepFor was is done (OutOfMemory wait) = ⊥
 StepFor was is done (Ended (Ok whole)) = ⊥
 StepFor was is done (Ended (Err fault)) = FailsBy was done.outcome done.request fault
+
+-- A job that has no bytes and no operation ends.
+abbrev pub EndsNone : Coursed → Wait → Step → Type 0
+EndsNone c wait step = HasNone wait → c.bytes ≡ [] → step ≡ Ended (Ok tt)

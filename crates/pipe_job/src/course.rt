@@ -55,7 +55,8 @@ impl Course {
 
     // All bytes were sent and received.
     pub(crate) fn is_done(&self) -> bool
-        ensures { IsTrue result ↔ ((self.now.sent ≡ length self.now.bytes) × (self.now.received ≡ length self.now.bytes)) }
+        ensures done { IsTrue result ↔ ((self.now.sent ≡ length self.now.bytes) × (self.now.received ≡ length self.now.bytes)) }
+        ensures bounds { (self.now.sent ≤ length self.now.bytes) × (self.now.received ≤ self.now.sent) }
     {
         self.is_sent() && self.received == self.bytes.len()
     }

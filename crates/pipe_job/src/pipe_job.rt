@@ -4,11 +4,11 @@ ghost use Rattle.core_exec.specs.Job.{IfBack, IfPending, Steps};
 ghost use Rattle.ready_driver.specs.LegacyState.{ops_in};
 ghost use Rattle.pipe_job.specs.Awaits.{AwaitsBy, AwaitsJob, KeepsWaiting, WaitsPipe};
 ghost use Rattle.pipe_job.specs.PipeJob.{FitsPipe, ApartPipes, IsIdle, IsAim, aim_of, cancels_of, polls_of};
-ghost use Rattle.pipe_job.specs.PipeJob.{AsksPipe, AsksWait, EndsJob, FitsEach, HoldsPipe, IsGonePipe, MovesJob, WaitsJob, received_of};
+ghost use Rattle.pipe_job.specs.PipeJob.{AsksPipe, AsksWait, EndsEmpty, EndsJob, FitsEach, HoldsPipe, IsGonePipe, MovesJob, WaitsJob, received_of};
 ghost use Rattle.pipe_job.specs.PipeJob.{IsNewPipe, LeavesPipe, sent_of};
 ghost use Rattle.pipe_job.specs.Rest.{LeavesRest};
 ghost use Rattle.pipe_job.specs.Course.{IsSameBytes, IsWhole};
-ghost use Rattle.pipe_job.specs.Steps.{IfWhole, StepsTo, as_step};
+ghost use Rattle.pipe_job.specs.Steps.{EndsNone, IfWhole, StepsTo, as_step};
 ghost use Rattle.pipe_job.specs.Waits.{FitsWait, HoldsWait, IsGoneWait, KeepsApart, apart_swaps, idle_apart};
 
 use crate::course::Course;
@@ -116,6 +116,7 @@ fn run<I: NonBlock>(
     requires fits { FitsWait (ops_in driver.old) course.old cancels wait }
     ensures same { IsSameBytes course.old course.new }
     ensures steps { StepsTo I.files I.view I.tells I.memory course.old course.new cancels driver.old driver.new wait (as_step result) }
+    ensures empty { EndsNone course.old wait (as_step result) }
     ensures awaits { AwaitsBy I.files I.memory driver.new course.old.pipe task (as_step result) }
     ensures whole { IfWhole (as_step result) (IsWhole course.new) }
 {
@@ -173,7 +174,9 @@ impl<I: NonBlock> Job<LegacyDriver<I, Rent>> for PipeJob {
         // Each fault has its cause, and it is pending only where more can't be done at once.
         ensures ends { EndsJob I.view I.tells driver.old driver.new self result }
         ensures waits { WaitsJob I.view driver.old driver.new result }
-        // One that is pending waits with its task in the list of its pipe.
+        // One that has no bytes is done at once.
+        ensures empty { EndsEmpty self result }
+        // One that is pending waits with its task in the list of its pipe, if that isn't a file.
         ensures awaits { AwaitsJob I.files I.memory driver.new task result }
         // What it sends and receives goes through its pipe, and is all that changes of what it has sent and received.
         ensures moves { MovesJob I.view I.tells I.memory driver.old driver.new self result }

@@ -10,7 +10,7 @@ ghost use Rattle.pipe_job.specs.Causes.{StepEndsFor, WaitsBy};
 ghost use Rattle.pipe_job.specs.Course.{IsSameBytes, IsWhole, left_of};
 ghost use Rattle.pipe_job.specs.Moves.{HasOwn, MovesOn};
 ghost use Rattle.pipe_job.specs.Rest.{IsOwnOrNew, LeavesRest};
-ghost use Rattle.pipe_job.specs.Steps.{IfWhole, StepFor, StepsTo, UnlessFault};
+ghost use Rattle.pipe_job.specs.Steps.{EndsNone, IfWhole, StepFor, StepsTo, UnlessFault};
 ghost use Rattle.pipe_job.specs.Waits.{FitsWait, IfBack, IfAgain, KeepsApart, StaysApart, most_steps};
 
 use crate::course::Course;
@@ -179,6 +179,7 @@ pub(crate) fn advance<I: NonBlock>(
     requires fits { FitsWait (ops_in driver.old) course.old cancels wait }
     ensures same { IsSameBytes course.old course.new }
     ensures steps { StepsTo I.files I.view I.tells I.memory course.old course.new cancels driver.old driver.new wait result }
+    ensures empty { EndsNone course.old wait result }
     ensures awaits { AwaitsBy I.files I.memory driver.new course.old.pipe task result }
     ensures less { IfAgain result (λ next. most_steps course.new next < most_steps course.old wait) }
     ensures whole { IfWhole result (IsWhole course.new) }

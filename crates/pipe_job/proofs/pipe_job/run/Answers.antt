@@ -9,6 +9,7 @@ loop-next-init g c = record {
   same = record { pipe = refl; bytes = refl };
   steps = steps_none g.I.NonBlock.files g.I.NonBlock.view g.I.NonBlock.tells g.I.NonBlock.memory c.args.course.now c.args.cancels
       c.args.driver.now c.args.wait c.requires.fits;
+  none = λ idle none. (idle, none);
 }
 
 -- one more
@@ -18,6 +19,10 @@ loop-next-preserved g c = record {
   steps = steps_on g.I.NonBlock.files g.I.NonBlock.view g.I.NonBlock.tells g.I.NonBlock.memory c.args.course.now c.loop-next.course
       c.advance.new.course c.args.cancels c.args.driver.now c.loop-next.driver c.advance.new.driver c.args.wait c.loop-next.wait
       (Again c.in-Again.next) c.loop-next.invariant.steps c.in-Again.ensures.steps;
+  none = λ idle none.
+      let kept = c.loop-next.invariant.none idle none in
+      let no = c.in-Again.ensures.empty kept.0 kept.1 in
+      absurd cc;
 }
 
 -- the last
