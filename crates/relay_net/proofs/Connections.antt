@@ -37,6 +37,7 @@ use Rattle.relay_net.specs.declared.flow.Flow.{Flow}
 use Rattle.relay_net.specs.declared.flow.Stage.{Stage}
 use Rattle.relay_net.specs.declared.flow.Stage.TheVariants as stage
 use Rattle.relay_net.specs.declared.round.RelayError.TheVariants as why
+use Rattle.relay_net.proofs.Going.{moves_going, moves_listens}
 use Rattle.relay_net.proofs.Marks.{follows_marks, moves_ended, streams_then}
 use Rattle.relay_net.proofs.Calls.{later_same, later_then, pending_kept, plain_in, released_users, users_then}
 
@@ -108,9 +109,19 @@ moves_elsewhere old new near far (inr sent) h first second =
 
 moves_streams : (old new : List HandleState) (near far : ℕ) → MovesBetween old near far new → KeepsStreams old new
 moves_streams old new near far (inl taken) h =
-    (λ stream. taken_stream old new near h taken stream, λ ended. moves_ended old new near far (inl taken) h ended)
+    let moves : MovesBetween old near far new = inl taken in (
+      λ stream. taken_stream old new near h taken stream,
+      moves_ended old new near far moves h,
+      moves_listens old new near far moves h,
+      moves_going old new near far moves h,
+    )
 moves_streams old new near far (inr sent) h =
-    (λ stream. sent_stream old new far h sent stream, λ ended. moves_ended old new near far (inr sent) h ended)
+    let moves : MovesBetween old near far new = inr sent in (
+      λ stream. sent_stream old new far h sent stream,
+      moves_ended old new near far moves h,
+      moves_listens old new near far moves h,
+      moves_going old new near far moves h,
+    )
 
 -- What follows from what a direction came to.
 follows_cause : (old new : IoView) (c : Came) (before now : Bool) (answer : Served) → CameFor old new c → FollowsAs c before now answer
@@ -258,7 +269,7 @@ module _ {I : Type 0} (view : I → IoView) (tells : Bool) where
       users = λ h held. held;
       ops = λ op held asked. refl;
       elsewhere = λ t h first second. (refl, refl);
-      streams = λ t h. (λ stream. stream, λ ended. ended);
+      streams = λ t h. (λ stream. stream, λ ended. ended, λ listens. listens, λ going. going);
     };
     lines = record { forth_line = λ t a b. refl; back_line = λ t apart a b. refl };
     cause = tt;
@@ -349,6 +360,7 @@ module _ {I : Type 0} (view : I → IoView) (tells : Bool) where
     users = λ h other held. subst (λ t. is_users t h ≡ true) (sym lets.holders) (released_users old.handling.table fd h other held);
     ops = λ op held asked. ap (λ m. map.get m op.key) rest.slots;
     world = lets.object.world;
+    made = lets.object.made;
   }
 
   -- What was dropped, and what was given up, as a part of a connection's end.
@@ -359,6 +371,7 @@ module _ {I : Type 0} (view : I → IoView) (tells : Bool) where
     users = λ h a b held. drops.users h held;
     ops = ops_fewer (ops_in old) (ops_in new) (IsElse near far) (IsOutside near far) (λ request out. out.0) drops.ops;
     world = drops.world;
+    made = drops.made;
   }
 
   pub abandons_back : (old new : LegacyState I Buf) (near far : ℕ) → Abandons view tells old far near new
@@ -368,6 +381,7 @@ module _ {I : Type 0} (view : I → IoView) (tells : Bool) where
     users = λ h a b held. drops.users h held;
     ops = ops_fewer (ops_in old) (ops_in new) (IsElse far near) (IsOutside near far) (λ request out. out.1) drops.ops;
     world = drops.world;
+    made = drops.made;
   }
 
   pub releases_near : (old new : LegacyState I Buf) (near far : ℕ) → Releases view tells old near new
@@ -377,6 +391,7 @@ module _ {I : Type 0} (view : I → IoView) (tells : Bool) where
     users = λ h a b held. releases.users h a held;
     ops = ops_fewer (ops_in old) (ops_in new) AnyRequest (IsOutside near far) (λ request out. tt) releases.ops;
     world = releases.world;
+    made = releases.made;
   }
 
   pub releases_far : (old new : LegacyState I Buf) (near far : ℕ) → Releases view tells old far new
@@ -386,6 +401,7 @@ module _ {I : Type 0} (view : I → IoView) (tells : Bool) where
     users = λ h a b held. releases.users h b held;
     ops = ops_fewer (ops_in old) (ops_in new) AnyRequest (IsOutside near far) (λ request out. tt) releases.ops;
     world = releases.world;
+    made = releases.made;
   }
 
   pub ends_then : (old mid new : LegacyState I Buf) (near far : ℕ) → EndsConnection view tells old near far mid
@@ -395,6 +411,7 @@ module _ {I : Type 0} (view : I → IoView) (tells : Bool) where
     users = λ h a b held. second.users h a b (first.users h a b held);
     ops = ops_then (ops_in old) (ops_in mid) (ops_in new) (IsOutside near far) first.ops second.ops;
     world = λ t. second.world t ∙ first.world t;
+    made = second.made ∙ first.made;
   }
 
   pub none_ends : (driver : LegacyState I Buf) (near far : ℕ) → EndsConnection view tells driver near far driver
@@ -403,6 +420,7 @@ module _ {I : Type 0} (view : I → IoView) (tells : Bool) where
     users = λ h a b held. held;
     ops = λ op held asked. refl;
     world = λ t. refl;
+    made = refl;
   }
 
   -- The near handle is the user's still behind the end of the other direction.

@@ -13,9 +13,9 @@ use Rattle.ring_core.specs.declared.world.HandleState.{HandleState}
 use Rattle.ring_core.proofs.Amended.{get-amended, get-amended-other}
 use Rattle.ring_core.proofs.Numbers.{same-or-not}
 use Rattle.net_stream.specs.Told.{output_at}
-use Rattle.relay_net.specs.Connection.{KeepsStreams}
 use Rattle.relay_net.specs.Flow.{line}
-use Rattle.relay_net.proofs.Marks.{same_handles}
+use Rattle.relay_net.specs.Keeping.{HasEnded}
+use Rattle.relay_net.proofs.Marks.{KeepsEnds}
 
 -- What was sent is as it was at every handle.
 fed_output : (world : List HandleState) (h to : ℕ) (bytes : List ℕ)
@@ -68,38 +68,31 @@ feeds_line old new h bytes (Ok done) within feeds = λ to held.
     fed_line old new h to held bytes found.0 found.1 feeds.1
 feeds_line old new h bytes (Err why) within feeds = tt
 
--- A change of one handle that keeps its kind, and its end if that was marked, keeps streams and ends.
+-- A change of one handle that keeps its kind, and its end if that was marked, keeps ends.
 changed_kept : (change : HandleState → HandleState) → ((handle : HandleState) → (change handle).kind ≡ handle.kind)
     → (world : List HandleState) (h : ℕ)
     → ((handle : HandleState) → slice_get world h ≡ Some handle → (handle.input ≡ []) × (handle.ended ≡ true)
-    → ((change handle).input ≡ []) × ((change handle).ended ≡ true)) → KeepsStreams world (amended world h change)
-changed_kept change kind world h spent g = (
-  λ stream. elim (same-or-not g h) [
-    | inl e ↦ record {
-      handle = change stream.handle;
-      there = ap (slice_get (amended world h change)) e
-          ∙ (get-amended change world h ∙ ap (option_map change) (sym (ap (slice_get world) e) ∙ stream.there));
-      kind = kind stream.handle ∙ stream.kind;
-    }
-    | inr e ↦ record { handle = stream.handle; there = get-amended-other change world h g e ∙ stream.there; kind = stream.kind }
-  ],
-  λ ended. elim (same-or-not g h) [
-    | inl e ↦ record {
-      handle = change ended.handle;
-      there = ap (slice_get (amended world h change)) e
-          ∙ (get-amended change world h ∙ ap (option_map change) (sym (ap (slice_get world) e) ∙ ended.there));
-      spent = λ stream.
-          let was = sym (kind ended.handle) ∙ stream in
-          spent ended.handle (sym (ap (slice_get world) e) ∙ ended.there) (ended.spent was);
-    }
-    | inr e ↦ record { handle = ended.handle; there = get-amended-other change world h g e ∙ ended.there; spent = ended.spent }
-  ],
-)
+    → ((change handle).input ≡ []) × ((change handle).ended ≡ true)) → KeepsEnds world (amended world h change)
+changed_kept change kind world h spent g ended = elim (same-or-not g h) [
+  | inl e ↦ record {
+    handle = change ended.handle;
+    there = ap (slice_get (amended world h change)) e
+        ∙ (get-amended change world h ∙ ap (option_map change) (sym (ap (slice_get world) e) ∙ ended.there));
+    spent = λ stream.
+        let was = sym (kind ended.handle) ∙ stream in
+        spent ended.handle (sym (ap (slice_get world) e) ∙ ended.there) (ended.spent was);
+  }
+  | inr e ↦ record { handle = ended.handle; there = get-amended-other change world h g e ∙ ended.there; spent = ended.spent }
+]
 
--- What arrives keeps streams and ends: a handle whose end is marked takes nothing.
+-- Handles that stay as they are keep ends.
+same_ends : (old new : List HandleState) → new ≡ old → KeepsEnds old new
+same_ends old new same h ended = subst (λ w. HasEnded w h) (sym same) ended
+
+-- What arrives keeps ends: a handle whose end is marked takes nothing.
 pub fed_kept : (bytes : List ℕ) (old new : List HandleState) (h : ℕ) (result : Result Unit WorldError) → WorldFeeds bytes old h new result
-    → KeepsStreams old new
-fed_kept bytes old new h (Ok done) feeds = subst (KeepsStreams old) (sym feeds.1)
+    → KeepsEnds old new
+fed_kept bytes old new h (Ok done) feeds = subst (KeepsEnds old) (sym feeds.1)
     (changed_kept (with_input bytes) (λ handle. refl) old h (λ handle there is. absurd (open_end handle there is.1)))
   where
     open_end : (handle : HandleState) → slice_get old h ≡ Some handle → handle.ended ≡ true → ⊥
@@ -108,12 +101,12 @@ fed_kept bytes old new h (Ok done) feeds = subst (KeepsStreams old) (sym feeds.1
         let no : handle.ended ≡ false = search (arith, nat_tests) in
         let both : ◌≡◌ {A = Bool} true false = sym ended ∙ no in
         absurd cc
-fed_kept bytes old new h (Err BadHandleEvent) feeds = same_handles old new feeds.1
-fed_kept bytes old new h (Err OutOfMemory) feeds = same_handles old new feeds.1
+fed_kept bytes old new h (Err BadHandleEvent) feeds = same_ends old new feeds.1
+fed_kept bytes old new h (Err OutOfMemory) feeds = same_ends old new feeds.1
 
 -- So does the end of what arrives.
-pub ended_kept : (old new : List HandleState) (h : ℕ) (result : Result Unit WorldError) → WorldEnds old h new result → KeepsStreams old new
-ended_kept old new h (Ok done) ends = subst (KeepsStreams old) (sym ends.1)
+pub ended_kept : (old new : List HandleState) (h : ℕ) (result : Result Unit WorldError) → WorldEnds old h new result → KeepsEnds old new
+ended_kept old new h (Ok done) ends = subst (KeepsEnds old) (sym ends.1)
     (changed_kept with_end (λ handle. refl) old h (λ handle there is. (is.0, refl)))
-ended_kept old new h (Err BadHandleEvent) ends = same_handles old new ends.1
+ended_kept old new h (Err BadHandleEvent) ends = same_ends old new ends.1
 ended_kept old new h (Err OutOfMemory) ends = absurd ends

@@ -37,13 +37,13 @@ use Rattle.ready_driver.specs.Calling.{Called}
 use Rattle.ready_driver.specs.Dialing.{IsOpened, IsUnopened}
 use Rattle.ready_driver.specs.Io.{EndsFor, IoView, IsWaited, made_after}
 use Rattle.ready_driver.specs.Legacy.{Legacy}
-use Rattle.ready_driver.specs.LegacyPolls.{HandsOver, outcome_for, outcome_if}
+use Rattle.ready_driver.specs.LegacyPolls.{HandsOver}
 use Rattle.ready_driver.specs.LegacyStands.{LegacyStands}
 use Rattle.ready_driver.specs.LegacyState.{LegacyState, holds_all, ops_in}
 use Rattle.ready_driver.specs.LegacyTurns.{LegacyTurns, TurnsBy, turning_in}
 use Rattle.ready_driver.specs.MemIo.{Memory, memory_view}
 use Rattle.ready_driver.specs.Records.{Kept, changed, is_registered, with_registered}
-use Rattle.ready_driver.specs.Registry.{AreKeyed, GivesUser, Handling, LetsGo, MakesReady, TriesFor, is_known, is_old}
+use Rattle.ready_driver.specs.Registry.{AreKeyed, GivesUser, Handling, LetsGo, MakesReady, TriesFor, is_known}
 use Rattle.ready_driver.specs.Registry.{keyed_each, keyed_unless, unheld_if, without_keys}
 use Rattle.ready_driver.specs.Reports.{with_key, with_made_key}
 use Rattle.ready_driver.specs.declared.non_block.NonBlockError.{NonBlockError}
@@ -57,6 +57,7 @@ use Rattle.relay_net.specs.Relay.{IsAccept, IsSound}
 use Rattle.relay_net.specs.declared.connection.Connection.{Connection}
 use Rattle.relay_net.proofs.Calls.{Lawful}
 use Rattle.relay_net.proofs.Listens.{users_known}
+use Rattle.relay_net.proofs.Made.{count_then, ended_made, opened_made, outcome_made, same_count, turned_made}
 use Rattle.relay_net.proofs.Polls.{Ends, Waits, pending_waits, ready_ends, starved_waits}
 
 -- A driver over handles in memory that stands as plain data has its keys. So each one has that was made new and called.
@@ -69,12 +70,15 @@ stands_keys driver D stands = record {
 
 -- Where nothing is called all stays.
 pub keeps_none : {I : Type 0} (view : I → IoView) (memory : Bool) (driver : LegacyState I Buf) → KeepsKeys view memory driver driver
-keeps_none view memory driver = record { keys = λ is keys. keys }
+keeps_none view memory driver = record { made = omega arith; keys = λ is keys. keys }
 
 -- One call follows another.
 pub keeps_then : {I : Type 0} (view : I → IoView) (memory : Bool) (old mid new : LegacyState I Buf) → KeepsKeys view memory old mid
     → KeepsKeys view memory mid new → KeepsKeys view memory old new
-keeps_then view memory old mid new first second = record { keys = λ is keys. second.keys is (first.keys is keys) }
+keeps_then view memory old mid new first second = record {
+  made = count_then (view old.handling.io).made (view mid.handling.io).made (view new.handling.io).made first.made second.made;
+  keys = λ is keys. second.keys is (first.keys is keys);
+}
 
 -- The same holders have the same keys.
 same_keyed : (old new : Table) (keys : List (Option ℕ)) → new.holders ≡ old.holders → AreKeyed old keys → AreKeyed new keys
@@ -232,17 +236,6 @@ given_keyed old new keys h all place held k known = elim (same-or-not k h) [
       ∙ all k (sym (ap is_some (ap (λ m. map.get m k) held ∙ put-other old.holders h by_user k e)) ∙ known))
 ]
 
--- An outcome that names a handle is that of its call.
-outcome_made : (table : Table) (call : Outcome) (h : ℕ) → made_by (outcome_for table call) ≡ Some h → call ≡ Made h
-outcome_made table (Count k) h is = absurd cc
-outcome_made table (From k addr) h is = absurd cc
-outcome_made table (Fail error) h is = absurd cc
-outcome_made table (Made n) h is = by-old (is_old table n) is
-  where
-    by-old : (b : Bool) → made_by (outcome_if b (Made n)) ≡ Some h → Made n ≡ Made h
-    by-old true refused = absurd cc
-    by-old false same = let e : n ≡ h = cc in ap Made e
-
 module _ {I : Type 0} (view : I → IoView) where
   -- The same handles are registered behind a call that leaves holders and keys.
   pub same_keys : (old new : Handling I) → new.table.holders ≡ old.table.holders → (view new.io).keys ≡ (view old.io).keys
@@ -298,6 +291,8 @@ module _ {I : Type 0} (view : I → IoView) where
         → LegacySubmits view tells memory old new request (Ok op) → IsTrue (holds_all old.handling.table (named request))
         → KeepsKeys view memory old new
     submitted_keys old new request op joins held = record {
+      made = same_count (view old.handling.io).made (view new.handling.io).made
+          (ap (λ x. (view x.io).made) joins.handling ∙ joins.ready.object.made);
       keys = λ memory_is has.
           let mid = ready_keys old.handling joins.mid (named request) joins.ready memory_is has in
           let all : (h : ℕ) → has_number h (named request) ≡ true → is_known joins.mid.table h ≡ true =
@@ -312,12 +307,14 @@ module _ {I : Type 0} (view : I → IoView) where
     pub refused_keys : (old new : LegacyState I Buf) (request : Request Buf Parts) (refused : SubmitError Buf)
         → LegacySubmits view tells memory old new request (Err refused) → KeepsKeys view memory old new
     refused_keys old new request refused refuses = record {
+      made = same_count (view old.handling.io).made (view new.handling.io).made refuses.handles.made.object.made;
       keys = λ memory_is has. ready_keys old.handling new.handling refuses.handles.front refuses.handles.made memory_is has;
     }
 
     -- A drop.
     pub dropped_keys : (old new : LegacyState I Buf) (op : Op) → LegacyDrops view tells memory old new op → KeepsKeys view memory old new
     dropped_keys old new op drops = record {
+      made = same_count (view old.handling.io).made (view new.handling.io).made drops.handles.object.made;
       keys = λ memory_is has.
           let handles = named_in (map.get old.slots.values op.key) in
           record {
@@ -335,6 +332,7 @@ module _ {I : Type 0} (view : I → IoView) where
         → LetsGo view tells memory old.handling (settled old.handling.table fd (without_user (holders_at old.handling.table fd)))
         (unheld_if (is_nobody (without_user (holders_at old.handling.table fd))) fd) new.handling → KeepsKeys view memory old new
     released_keys old new fd lets = record {
+      made = same_count (view old.handling.io).made (view new.handling.io).made lets.object.made;
       keys = λ memory_is has.
           let table = old.handling.table in
           let held = without_user (holders_at table fd) in
@@ -352,7 +350,11 @@ module _ {I : Type 0} (view : I → IoView) where
     -- A turn.
     pub turned_keys : (reporting : Bool) (old new : LegacyState I Buf) (turned : Turned)
         → LegacyTurns view tells reporting memory old new turned → KeepsKeys view memory old new
-    turned_keys reporting old new turned turns = record { keys = λ memory_is has. by-stop turned.stop turns.does memory_is has }
+    turned_keys reporting old new turned turns = record {
+      made = same_count (view old.handling.io).made (view new.handling.io).made
+          (turned_made view tells memory reporting old new turned turns);
+      keys = λ memory_is has. by-stop turned.stop turns.does memory_is has;
+    }
       where
         by-stop : (s : Option Stop) → TurnsBy view tells reporting memory (turning_in old old.asked) (turning_in new turns.tasks) s
             → IsTrue memory → HasKeys view old.handling → HasKeys view new.handling
@@ -372,6 +374,7 @@ module _ {I : Type 0} (view : I → IoView) where
     pub opened_keys : (old new : LegacyState I Buf) (h : ℕ) → IsOpened view tells memory Stream old.handling new.handling h
         → KeepsKeys view memory old new
     opened_keys old new h opened = record {
+      made = opened_made view tells memory old.handling new.handling h opened;
       keys = λ memory_is has.
           let before = (view old.handling.io).keys in
           gives_keys opened.mid new.handling h opened.user
@@ -388,6 +391,7 @@ module _ {I : Type 0} (view : I → IoView) where
     pub unopened_keys : (old new : LegacyState I Buf) (why : NonBlockError)
         → IsUnopened view tells memory old.handling new.handling why → KeepsKeys view memory old new
     unopened_keys old new why unopened = record {
+      made = same_count (view old.handling.io).made (view new.handling.io).made unopened.object.made;
       keys = λ memory_is has. same_keys old.handling new.handling unopened.holders (unopened.object.keys_are memory_is)
           unopened.object.made has;
     }
@@ -397,6 +401,7 @@ module _ {I : Type 0} (view : I → IoView) where
       waits_keys : (old new : LegacyState I Buf) (op : Op) → Waits view tells memory files called law old new op
           → KeepsKeys view memory old new
       waits_keys old new op waits = record {
+        made = same_count (view old.handling.io).made (view new.handling.io).made waits.made;
         keys = λ memory_is has. same_keys old.handling new.handling waits.holders (waits.keys memory_is) waits.made has;
       }
 
@@ -418,6 +423,7 @@ module _ {I : Type 0} (view : I → IoView) where
           (ends : Ends view tells memory files called law old new op done)
           → ((h : ℕ) → ends.call ≡ Made h → h ≡ (view old.handling.io).made) → KeepsKeys view memory old new
       ended_keys old new op done ends number = record {
+        made = ended_made view tells memory files called law old new op done ends;
         keys = λ memory_is has.
             let before = (view old.handling.io).keys in
             let keys = (ends.made.called memory_is).1 in

@@ -1,11 +1,14 @@
 pub mod Beside
 pub mod Calls
+pub mod Closing
 pub mod Connections
 pub mod Feeds
 pub mod Flows
 pub mod Forwarding
+pub mod Going
 pub mod Keyed
 pub mod Listens
+pub mod Made
 pub mod Marks
 pub mod Moves
 pub mod Numbers

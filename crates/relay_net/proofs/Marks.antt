@@ -18,6 +18,7 @@ use Rattle.driver_core.proofs.Lists.{get-front}
 use Rattle.net_stream.specs.Told.{IsStream}
 use Rattle.relay_net.specs.Connection.{FollowsAs, IsMarked, KeepsStreams, far_of, near_of}
 use Rattle.relay_net.specs.Keeping.{HasEnded, MovesBetween}
+use Rattle.relay_net.specs.Listening.{AreGoingBut, IsListener}
 use Rattle.relay_net.specs.Relay.{AreMarked}
 use Rattle.relay_net.specs.Steps.{EndsAt}
 use Rattle.relay_net.specs.declared.connection.Connection.{Connection}
@@ -58,7 +59,7 @@ taken_keeps k = record {
   spent = λ handle stream is. (ap (drop k) is.0 ∙ none_left k, is.1);
 }
 
-sent_kind : (kind : HandleKind) (bytes : List ℕ) (handle : HandleState) → (sent_to_kind kind bytes handle).kind ≡ handle.kind
+pub sent_kind : (kind : HandleKind) (bytes : List ℕ) (handle : HandleState) → (sent_to_kind kind bytes handle).kind ≡ handle.kind
 sent_kind Pipe bytes handle = refl
 sent_kind Stream bytes handle = refl
 sent_kind Datagram bytes handle = refl
@@ -120,23 +121,38 @@ pub same_handles : (old new : List HandleState) → new ≡ old → KeepsStreams
 same_handles old new same h = (
   λ stream. subst (λ w. IsStream w h) (sym same) stream,
   λ ended. subst (λ w. HasEnded w h) (sym same) ended,
+  λ listens. subst (λ w. IsListener w h) (sym same) listens,
+  λ going. subst (AreGoingBut h) (sym same) going,
 )
 
 pub streams_then : (old mid new : List HandleState) → KeepsStreams old mid → KeepsStreams mid new → KeepsStreams old new
 streams_then old mid new first second h = (
   λ stream. (second h).0 ((first h).0 stream),
   λ ended. (second h).1 ((first h).1 ended),
+  λ listens. (second h).2 ((first h).2 listens),
+  λ going. (second h).3 ((first h).3 going),
 )
 
+-- What has ended has ended still.
+abbrev pub KeepsEnds : List HandleState → List HandleState → Type 0
+KeepsEnds old new = (h : ℕ) → HasEnded old h → HasEnded new h
+
 -- A connection that was ending for a reason is ending for it still.
-pub marked_kept : (old new : List HandleState) (conn : Connection) → KeepsStreams old new → IsMarked old conn → IsMarked new conn
-marked_kept old new conn keeps marked ending = elim (marked ending) [
-  | inl ended ↦ inl ((keeps (near_of conn)).1 ended)
-  | inr ended ↦ inr ((keeps (far_of conn)).1 ended)
+marked_still : (old new : List HandleState) (conn : Connection) → KeepsEnds old new → IsMarked old conn → IsMarked new conn
+marked_still old new conn keeps marked ending = elim (marked ending) [
+  | inl ended ↦ inl (keeps (near_of conn) ended)
+  | inr ended ↦ inr (keeps (far_of conn) ended)
 ]
 
+pub all_still : (old new : List HandleState) (all : List Connection) → KeepsEnds old new → AreMarked old all → AreMarked new all
+all_still old new all keeps marked conn among = marked_still old new conn keeps (marked conn among)
+
+-- So it is where handles keep more.
+pub marked_kept : (old new : List HandleState) (conn : Connection) → KeepsStreams old new → IsMarked old conn → IsMarked new conn
+marked_kept old new conn keeps = marked_still old new conn (λ h. (keeps h).1)
+
 pub all_marked : (old new : List HandleState) (all : List Connection) → KeepsStreams old new → AreMarked old all → AreMarked new all
-all_marked old new all keeps marked conn among = marked_kept old new conn keeps (marked conn among)
+all_marked old new all keeps = all_still old new all (λ h. (keeps h).1)
 
 -- A connection with the same handles and the same mark is marked for the same.
 pub marked_same : (world : List HandleState) (before now : Connection) → near_of now ≡ near_of before → far_of now ≡ far_of before

@@ -1,5 +1,5 @@
 -- Connections that are opened: what an accept, a release and an opening leave.
-use Rattle.std.proofs.Common.{ℕ, zero, suc, ◌≡◌, ◌≤◌, ◌∙◌, ap, sym, refl, subst, arith, Bool, IsTrue, true, false, List, [], ◌∷◌, ◌++◌}
+use Rattle.std.proofs.Common.{ℕ, zero, suc, ◌≡◌, ◌≤◌, ◌<◌, ◌∙◌, ap, sym, refl, subst, arith, Bool, IsTrue, true, false, List, [], ◌∷◌, ◌++◌}
 use Rattle.std.proofs.Common.{Option, Some, None, Ok, Err, inl, inr}
 use Rattle.std.specs.Prelude.{◌⊎◌, ◌||◌, IfErr, IfOk, Result, is_some, nat_le, nat_lt, slice_get, unwrap_or}
 use Rattle.std.specs.FinMap as map
@@ -62,6 +62,7 @@ use Rattle.relay_net.proofs.Polls.{other_key, pending_pends, pending_waits, poll
 use Rattle.relay_net.proofs.Connections.{asked_as}
 use Rattle.relay_net.proofs.Relays.{stops_later}
 use Rattle.relay_net.proofs.Beside.{bytes_lines, connection_kept, lines_then}
+use Rattle.relay_net.proofs.Made.{ended_grows}
 use Rattle.relay_net.proofs.Marks.{all_marked, marked_kept, same_handles, streams_then}
 use Rattle.relay_net.proofs.Opens.{accept_apart, accept_world, appended_bytes, appended_streams, bytes_then, fresh_far, fresh_kept}
 use Rattle.relay_net.proofs.Opens.{fresh_pushed, given_held, handed_still, same_bytes, stays_widens, unknown_unheld, widens_all}
@@ -115,12 +116,13 @@ module _ {I : Type 0} (view : I → IoView) (tells memory : Bool) (files : I →
             (starved_pends view tells memory files called law old new op (error, back) task (IsAccept listener) polls tokens.1 pending),
       )
 
-  -- One that ended. The handle that it made is new.
+  -- One that ended. The handle that it made is new, and the object counts it.
   pub accept_ends : (old new : LegacyState I Buf) (op : Op) (answer : PollOp Buf) (done : Ended Buf) (task listener : ℕ)
       → answer ≡ Ready done → LegacyPolls files built called view tells memory old new op task (Ok answer)
       → IsPending (ops_in old) op (IsAccept listener)
       → Widens view tells old new
-      × ((h : ℕ) → done.outcome ≡ ended.Made h → IsNew old.handling.table new.handling.table h)
+      × ((h : ℕ) → done.outcome ≡ ended.Made h
+      → IsNew old.handling.table new.handling.table h × ((view old.handling.io).made < (view new.handling.io).made))
   accept_ends old new op answer done task listener is polls pending =
       let asked = subst (λ a. LegacyPolls files built called view tells memory old new op task (Ok a)) is polls in
       let ends = ready_ends view tells memory files called law old new op done task (IsAccept listener) asked pending in
@@ -152,12 +154,14 @@ module _ {I : Type 0} (view : I → IoView) (tells memory : Bool) (files : I →
           ];
         },
         λ h made.
-            let hands = subst (λ m. HandsOver view tells memory ends.mid m ends.handed) (ap made_by made) ends.hands in
-            record {
-              before = ap (λ m. nat_lt 0 (unwrap_or (map.get m h) nobody).user) (sym ends.table)
-                  ∙ unknown_unheld ends.mid.table h hands.0;
-              now = ends.left_users h (given_held ends.mid.table ends.handed.table h hands.1.table);
-            },
+            let hands = subst (λ m. HandsOver view tells memory ends.mid m ends.handed) (ap made_by made) ends.hands in (
+              record {
+                before = ap (λ m. nat_lt 0 (unwrap_or (map.get m h) nobody).user) (sym ends.table)
+                    ∙ unknown_unheld ends.mid.table h hands.0;
+                now = ends.left_users h (given_held ends.mid.table ends.handed.table h hands.1.table);
+              },
+              ended_grows view tells memory files called law old new op done ends h made,
+            ),
       )
 
   -- A stream is readable behind one that ended only if it was.
@@ -211,7 +215,8 @@ module _ {I : Type 0} (view : I → IoView) (tells memory : Bool) (files : I →
 
 -- What an accept that ended came to.
 pub accepted_for : {I : Type 0} (view : I → IoView) (old new : LegacyState I Buf) (listener : ℕ) (outcome : Outcome) (answer : Accepted)
-    → ((h : ℕ) → outcome ≡ ended.Made h → IsNew old.handling.table new.handling.table h)
+    → ((h : ℕ) → outcome ≡ ended.Made h
+    → IsNew old.handling.table new.handling.table h × ((view old.handling.io).made < (view new.handling.io).made))
     → ((error : ℕ) → outcome ≡ ended.Fail error → Rose (view old.handling.io).fails (view new.handling.io).fails)
     → AcceptedAs outcome answer → AcceptedFor view old new listener answer
 accepted_for view old new listener (ended.Count k) answer gives rises is = subst (AcceptedFor view old new listener) (sym is) tt
@@ -356,7 +361,7 @@ none_widens view tells driver = record {
   users = λ h held. held;
   ops = λ op held asked. refl;
   bytes = λ t h. (refl, refl);
-  streams = λ t h. (λ stream. stream, λ ended. ended);
+  streams = λ t h. (λ stream. stream, λ ended. ended, λ listens. listens, λ going. going);
 }
 
 -- Connections are sound behind a call that leaves every operation.

@@ -43,6 +43,7 @@ use Rattle.relay_net.proofs.Calls.{later_same, later_then}
 use Rattle.relay_net.proofs.Connections.{ops_fewer}
 use Rattle.relay_net.proofs.Beside.{IsKept, beside_swap, bytes_lines, connection_kept, lines_then}
 use Rattle.relay_net.proofs.Places.{get_pushed}
+use Rattle.relay_net.proofs.Going.{appended_going, appended_listens}
 use Rattle.relay_net.proofs.Marks.{all_marked, appended_ended, marked_kept, pushed_marked, same_handles, streams_then}
 
 -- A receive, and a send, are transfers; an accept is none.
@@ -86,6 +87,8 @@ appended_streams world h = (
     kind = stream.kind;
   },
   λ ended. appended_ended world h ended,
+  appended_listens world h,
+  appended_going world h,
 )
 
 -- Bytes stay where the handles do.
@@ -200,7 +203,7 @@ module _ {I : Type 0} (view : I → IoView) (tells : Bool) where
     };
     later = later_same (view driver.handling.io);
     bytes = λ t h. (refl, refl);
-    streams = λ t h. (λ stream. stream, λ ended. ended);
+    streams = λ t h. (λ stream. stream, λ ended. ended, λ listens. listens, λ going. going);
     marks = λ t marked. marked;
   }
 

@@ -232,6 +232,7 @@ dropped_abandons view tells memory old new op from to P drops pending apart = re
   ops = λ other held else. ap (λ m. map.get m other.key) drops.slot
       ∙ gone-other old.slots.values op.key other.key (other_key (ops_in old) op other P (IsElse from to) pending.asks else apart);
   world = drops.handles.object.world;
+  made = drops.handles.object.made;
 }
 
 pub still_abandons : {I : Type 0} (view : I → IoView) (tells : Bool) (driver : LegacyState I Buf) (from to : ℕ)
@@ -241,4 +242,5 @@ still_abandons view tells driver from to = record {
   users = λ h held. held;
   ops = λ op held else. refl;
   world = λ t. refl;
+  made = refl;
 }

@@ -443,7 +443,8 @@ module _ {I : Type 0} (view : I → IoView) (tells memory : Bool) (told : IsTrue
             (λ can. record {
               from_stream = (widens.streams t (near_of one)).0 can.from_stream;
               to_stream = (widens.streams t (far_of one)).0 can.to_stream;
-              from_seen = seen memory_is (near_of one) (ap (is_users old.handling.table) (sym same) ∙ own.near) can.from_stream can.from_seen;
+              from_seen = seen memory_is (near_of one) (ap (is_users old.handling.table) (sym same) ∙ own.near) can.from_stream
+                  can.from_seen;
               to_seen = seen memory_is (far_of one) (ap (is_users old.handling.table) (sym had.0) ∙ own.far) can.to_stream can.to_seen;
             }) kept.forth kept.back had.1,
       )

@@ -13,6 +13,7 @@ use Rattle.ready_driver.specs.LegacyState.{LegacyState, ops_in}
 use Rattle.ready_driver.specs.Registry.{is_users}
 use Rattle.net_stream.specs.Told.{IsStream, output_at}
 use Rattle.relay_net.specs.Flow.{FitsFlow, FitsStage, IsElse, held_in, line}
+use Rattle.relay_net.specs.Listening.{AreGoingBut, IsListener}
 use Rattle.relay_net.specs.Keeping.{AnyRequest, HasEnded, KeepsOps, KeepsUsers, StopsFor, world_of}
 use Rattle.relay_net.specs.Outcomes.{IsIdle}
 use Rattle.relay_net.specs.declared.connection.Connection.{Connection}
@@ -65,9 +66,12 @@ abbrev pub KeepsElsewhere : List HandleState → ℕ → ℕ → List HandleStat
 KeepsElsewhere old near far new = (h : ℕ) → h ≢ near → h ≢ far →
     (output_at new h ≡ output_at old h) × (input_at new h ≡ input_at old h)
 
--- Streams stay streams, and handles that have ended have ended still.
+-- Streams stay streams, handles that have ended have ended still, and one that listens listens still. Where each handle but one was a
+-- stream whose end isn't marked, so is each but that one.
 abbrev pub KeepsStreams : List HandleState → List HandleState → Type 0
-KeepsStreams old new = (h : ℕ) → (IsStream old h → IsStream new h) × (HasEnded old h → HasEnded new h)
+KeepsStreams old new = (h : ℕ) →
+    (IsStream old h → IsStream new h) × (HasEnded old h → HasEnded new h) × (IsListener old h → IsListener new h)
+    × (AreGoingBut h old → AreGoingBut h new)
 
 -- A connection is ending only where one of its handles has ended.
 abbrev pub IsMarked : List HandleState → Connection → Type 0
@@ -142,13 +146,14 @@ pub record IsLostAs (ops : Ops Buf) (conn : Connection) (fault : ℕ) (lost : Lo
   pub unsent : lost.unsent ≡ length (held_forth ops conn)
   pub unsent_back : lost.unsent_back ≡ length (held_back ops conn)
 
--- A connection ended: no bytes moved, and of the user's handles only its own may be gone.
+-- A connection ended: no bytes moved, no handle was made, and of the user's handles only its own may be gone.
 pub record EndsConnection {I : Type 0} (view : I → IoView) (tells : Bool) (old : LegacyState I Buf) (near far : ℕ)
     (new : LegacyState I Buf) : Type 0 where
   pub later : IsLater (view old.handling.io) (view new.handling.io)
   pub users : (h : ℕ) → h ≢ near → h ≢ far → is_users old.handling.table h ≡ true → is_users new.handling.table h ≡ true
   pub ops : KeepsOps (IsOutside near far) (ops_in old) (ops_in new)
   pub world : IsTrue tells → world_of view new ≡ world_of view old
+  pub made : (view new.handling.io).made ≡ (view old.handling.io).made
 
 -- A handle was given up: of the user's handles only this one may be gone, and all else stays.
 pub record Releases {I : Type 0} (view : I → IoView) (tells : Bool) (old : LegacyState I Buf) (fd : ℕ) (new : LegacyState I Buf) : Type 0
@@ -157,3 +162,4 @@ pub record Releases {I : Type 0} (view : I → IoView) (tells : Bool) (old : Leg
     pub users : (h : ℕ) → h ≢ fd → is_users old.handling.table h ≡ true → is_users new.handling.table h ≡ true
     pub ops : KeepsOps AnyRequest (ops_in old) (ops_in new)
     pub world : IsTrue tells → world_of view new ≡ world_of view old
+    pub made : (view new.handling.io).made ≡ (view old.handling.io).made

@@ -1,5 +1,5 @@
 -- Which handles of a driver over a world in memory are registered. Cited by each layer of the relay.
-use Rattle.std.specs.Prelude.{ℕ, ◌≡◌, Bool, IsTrue, List, length, Option, Some, slice_get}
+use Rattle.std.specs.Prelude.{ℕ, ◌≡◌, ◌≤◌, Bool, IsTrue, List, length, Option, Some, slice_get}
 use Rattle.rent_buf.specs.declared.plain.Buf.{Buf}
 use Rattle.ready_driver.specs.Io.{IoView}
 use Rattle.ready_driver.specs.LegacyState.{LegacyState}
@@ -14,8 +14,9 @@ pub record HasKeys {I : Type 0} (view : I → IoView) (all : Handling I) : Type 
   pub keyed : AreKeyed all.table (view all.io).keys
   pub sized : length (view all.io).keys ≡ (view all.io).made
 
--- Over a world in memory a call keeps that.
+-- Over a world in memory a call keeps that. It makes no handle less.
 pub record KeepsKeys {I : Type 0} (view : I → IoView) (memory : Bool) (old new : LegacyState I Buf) : Type 0 where
+  pub made : (view old.handling.io).made ≤ (view new.handling.io).made
   pub keys : IsTrue memory → HasKeys view old.handling → HasKeys view new.handling
 
 -- A handle is registered with its own number.

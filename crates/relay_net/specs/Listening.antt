@@ -1,7 +1,7 @@
 -- A listener in memory that a connection can be accepted of at once. Cited by the accept of a relay, and by its rounds.
-use Rattle.std.specs.Prelude.{ℕ, ◌≡◌, List, Some, slice_get, true}
+use Rattle.std.specs.Prelude.{ℕ, ◌≡◌, ◌≢◌, List, Some, slice_get, true, false}
 use Rattle.rent_buf.specs.declared.plain.Buf.{Buf}
-use Rattle.ring_core.specs.declared.world.HandleKind.TheVariants.{Listener}
+use Rattle.ring_core.specs.declared.world.HandleKind.TheVariants.{Listener, Stream}
 use Rattle.ring_core.specs.declared.world.HandleState.{HandleState}
 use Rattle.ready_driver.specs.declared.ready.Direction.TheVariants.{Read}
 use Rattle.ready_driver.specs.Io.{IoView}
@@ -20,6 +20,11 @@ pub record IsListener (world : List HandleState) (h : ℕ) : Type 0 where
   pub handle : HandleState
   pub there : slice_get world h ≡ Some handle
   pub kind : handle.kind ≡ Listener
+
+-- Each of these handles but one is a stream whose end isn't marked.
+abbrev pub AreGoingBut : ℕ → List HandleState → Type 0
+AreGoingBut listener world = (h : ℕ) (handle : HandleState) → h ≢ listener → slice_get world h ≡ Some handle →
+    (handle.kind ≡ Stream) × (handle.ended ≡ false)
 
 -- A handle of a driver listens, and its bits show that it can be read.
 pub record IsAtHand {I : Type 0} (view : I → IoView) (driver : LegacyState I Buf) (h : ℕ) : Type 0 where

@@ -1,5 +1,5 @@
 -- What a round does before it serves the connections: the turn, the accept, and the other end. Cited by `opening`, `far` and `relay`.
-use Rattle.std.specs.Prelude.{ℕ, ◌≡◌, ◌≢◌, ◌⊎◌, Bool, true, false, IfSome, IsTrue, List, [], Option}
+use Rattle.std.specs.Prelude.{ℕ, ◌≡◌, ◌≢◌, ◌<◌, ◌⊎◌, Bool, true, false, IfSome, IsTrue, List, [], Option}
 use Rattle.rent_buf.specs.Buffer.{Buffer}
 use Rattle.rent_buf.specs.Counts.{Rose}
 use Rattle.rent_buf.specs.Parts.{Parts}
@@ -54,11 +54,12 @@ pub record IsNew (old new : Table) (h : ℕ) : Type 0 where
   pub before : is_users old h ≡ false
   pub now : is_users new h ≡ true
 
--- What an accept that was polled came to: it waits on; it made a handle, which is new; or it failed, where the object counted a call that
--- ended with an error.
+-- What an accept that was polled came to: it waits on; it made a handle, which is new, and which the object counts; or it failed, where the
+-- object counted a call that ended with an error.
 abbrev pub AcceptedFor : {I : Type 0} → (I → IoView) → LegacyState I Buf → LegacyState I Buf → ℕ → Accepted → Type 0
 AcceptedFor view old new listener (Waits op) = IsPending (ops_in new) op (IsAccept listener)
-AcceptedFor view old new listener (Made h) = IsNew old.handling.table new.handling.table h
+AcceptedFor view old new listener (Made h) =
+    IsNew old.handling.table new.handling.table h × ((view old.handling.io).made < (view new.handling.io).made)
 AcceptedFor view old new listener (Failed error) = Rose (view old.handling.io).fails (view new.handling.io).fails
 AcceptedFor view old new listener Nothing = Unit {0}
 AcceptedFor view old new listener (OutOfMemory op) = IsPending (ops_in new) op (IsAccept listener)
@@ -112,9 +113,9 @@ pub record IsFresh (table : Table) (listener : ℕ) (all : List Connection) (h :
   pub other : h ≢ listener
   pub apart : (conn : Connection) → IsAmong all conn → (near_of conn ≢ h) × (far_of conn ≢ h)
 
--- A handle that arrived is fresh, and an accept failed only where the object counted a call that ended with an error.
+-- A handle that arrived is fresh, and the object counts it; an accept failed only where the object counted a call that ended with an error.
 abbrev pub ArrivesFor : IoView → IoView → Table → ℕ → List Connection → Arrival → Type 0
-ArrivesFor old new table listener all (arrival.Made h) = IsFresh table listener all h
+ArrivesFor old new table listener all (arrival.Made h) = IsFresh table listener all h × (old.made < new.made)
 ArrivesFor old new table listener all (arrival.Failed error) = Rose old.fails new.fails
 ArrivesFor old new table listener all _ = Unit {0}
 

@@ -18,6 +18,7 @@ use Rattle.relay_net.specs.Connection.{FitsConnection, IsMarked, KeepsLines, Kee
 use Rattle.relay_net.specs.Connection.{near_of}
 use Rattle.relay_net.specs.Flow.{IsPending}
 use Rattle.relay_net.specs.Keeping.{HasEnded, StopsFor, world_of}
+use Rattle.relay_net.specs.Listening.{AreGoingBut}
 use Rattle.relay_net.specs.declared.connection.Connection.{Connection}
 use Rattle.relay_net.specs.declared.round.Lost.{Lost}
 use Rattle.relay_net.specs.declared.round.RelayError.{RelayError}
@@ -113,6 +114,12 @@ Becomes view tells old conn new open_ones closed failed =
 -- Each of these connections is ending only where one of its handles has ended.
 abbrev pub AreMarked : List HandleState → List Connection → Type 0
 AreMarked world all = (conn : Connection) → IsAmong all conn → IsMarked world conn
+
+-- Each handle but the listener is a stream whose end isn't marked, and each of these connections is ending only where one of its handles
+-- has ended: so none is.
+pub record AreGoing {I : Type 0} (view : I → IoView) (driver : LegacyState I Buf) (listener : ℕ) (all : List Connection) : Type 0 where
+  pub streams : AreGoingBut listener (world_of view driver)
+  pub marked : AreMarked (world_of view driver) all
 
 -- What became of each connection that was open. A connection is among those that failed only where the object counted a call that ended
 -- with

@@ -44,3 +44,4 @@ pub record Abandons {I : Type 0} (view : I → IoView) (tells : Bool) (old : Leg
   pub users : KeepsUsers old.handling.table new.handling.table
   pub ops : KeepsOps (IsElse from to) (ops_in old) (ops_in new)
   pub world : IsTrue tells → world_of view new ≡ world_of view old
+  pub made : (view new.handling.io).made ≡ (view old.handling.io).made

@@ -18,10 +18,9 @@ ghost use Rattle.driver_core.specs.Ops.{Ops};
 
 mod drops;
 
-pub(crate) use drops::abandon;
-
 use crate::round::RelayError;
 use driver_core::{Done, MOST_GIVEN, Op, PollOp, SubmitError, SubmitFault};
+pub(crate) use drops::abandon;
 use handle_core::SharedFd;
 use op_driver::OpDriver;
 use ready_driver::{LegacyDriver, NonBlock};

@@ -207,6 +207,7 @@ pub(crate) fn open_one<I: Sockets, F: Far<I>>(
     ensures names { OnOk result (map near_of state.new.open.items ≡ map near_of state.old.open.items ++ near ∷ []) }
     ensures err { OnErr result (map near_of state.new.open.items ≡ map near_of state.old.open.items) }
     ensures first { OnOk result (IsFirst (ops_in state.new.driver) state.new.open.items near) }
+    ensures same { state.new.listener ≡ state.old.listener }
     ensures more { vec_len state.new.open ≤ vec_len state.old.open + 1 }
 {
     if state.open.reserve(1).is_err() {

@@ -7,28 +7,26 @@ ghost use Rattle.ready_driver.specs.LegacyState.{LegacyState, ops_in};
 ghost use Rattle.ready_driver.specs.Registry.{is_users};
 ghost use Rattle.rent_buf.specs.declared.plain.Buf.{Buf};
 ghost use Rattle.relay_net.specs.declared.connection.Connection.{Connection as Conn};
-ghost use Rattle.relay_net.specs.Opening.{AcceptFails, IsFirst, Opening, WasOpened, Widens};
-ghost use Rattle.relay_net.specs.Flow.{IsPending};
+ghost use Rattle.relay_net.specs.Opening.{AcceptFails, IsFirst, Opening, WasOpened};
 ghost use Rattle.relay_net.specs.Forwarding.{AreUntouched, HaveForwarded};
 ghost use Rattle.relay_net.specs.Keyed.{AreRegistered, HasKeys, KeepsKeys};
-ghost use Rattle.relay_net.specs.Listening.{IsAtHand, MayListen};
+ghost use Rattle.relay_net.specs.Listening.{AreGoingBut, IsAtHand, MayListen};
 ghost use Rattle.relay_net.specs.Connection.{near_of};
-ghost use Rattle.relay_net.specs.Relay.{AreMarked, AreServed, IsAccept, IsAmong, IsSound, Serving, StopsUnless, connections_in};
+ghost use Rattle.relay_net.specs.Relay.{AreGoing, AreMarked, IsAmong, IsSound, Serving, StopsUnless, connections_in};
 ghost use Rattle.relay_net.specs.Relaying.{HandsOn, RoundStops, TurnStops, round_of};
 
+mod ending;
 mod lists;
 mod memory;
 
-use crate::connection::Connection;
 use crate::far::Far;
-use crate::flow::Reads;
 use crate::opening::{Arrival, arrive, begin_accept, open_one};
+use crate::relay::ending::end_all;
 use crate::relay::lists::{Lists, no_round, no_wakers, round_with};
 use crate::round::{RelayError, Round};
 use crate::state::{State, serve_all};
-use driver_core::{Driver, MOST_GIVEN, Op, Stop};
+use driver_core::{Driver, MOST_GIVEN, Stop};
 use handle_core::SharedFd;
-use op_driver::OpDriver;
 use ready_driver::{LegacyDriver, Sockets};
 use rent_buf::{Buf, OutOfMemory};
 use std::alloc::Global;
@@ -173,6 +171,9 @@ fn accept<I: Sockets, F: Far<I>>(
         → Opening I.view I.tells start was state.old.driver state.old.open.items
         → AreUntouched I.view start was state.old.driver state.old.open.items
         → AreUntouched I.view start was state.new.driver state.new.open.items) }
+    ensures grows { lists.new.opened.items ≢ []
+        → (I.view state.old.driver.handling.io).made < (I.view state.new.driver.handling.io).made }
+    ensures same { state.new.listener ≡ state.old.listener }
 {
     if state.open.len() >= limit {
         return Ok(());
@@ -235,6 +236,11 @@ fn work<I: Sockets, F: Far<I>>(
         → Opening I.view I.tells start was state.old.driver state.old.open.items
         → AreUntouched I.view start was state.old.driver state.old.open.items
         → HaveForwarded I.view start was state.new.driver state.new.open.items) }
+    ensures grows { lists.new.opened.items ≢ []
+        → (I.view state.old.driver.handling.io).made < (I.view state.new.driver.handling.io).made }
+    ensures closes { IsTrue I.tells → AreGoing I.view state.old.driver state.old.listener state.old.open.items
+        → lists.new.ended.closed.items ≡ [] }
+    ensures same { state.new.listener ≡ state.old.listener }
 {
     accept(state, far, limit, lists)?;
     serve_all(state, alloc, &mut lists.ended)
@@ -285,6 +291,11 @@ fn behind<I: Sockets, F: Far<I>>(
         → Opening I.view I.tells start was state.old.driver state.old.open.items
         → OnOk turned (AreUntouched I.view start was state.old.driver state.old.open.items)
         → HaveForwarded I.view start was state.new.driver state.new.open.items) }
+    ensures grows { lists.new.opened.items ≢ []
+        → (I.view state.old.driver.handling.io).made < (I.view state.new.driver.handling.io).made }
+    ensures closes { IsTrue I.tells → AreGoing I.view state.old.driver state.old.listener state.old.open.items
+        → lists.new.ended.closed.items ≡ [] }
+    ensures same { state.new.listener ≡ state.old.listener }
 {
     match turned {
         Ok(()) => work(state, far, limit, alloc, lists),
@@ -365,6 +376,24 @@ impl<I: Sockets, F: Far<I>> Relay<I, F> {
         self.state.open.len()
     }
 
+    /// Ends the relay as a drop of it does, and returns the object of its driver: what waits is dropped, and the handles of each connection
+    /// are released. The handle that listens isn't closed. (not in monoio)
+    pub fn into_io(self) -> I
+        ensures later { IsLater (I.view self.driver.handling.io) (I.view result) }
+        ensures made { (I.view result).made ≡ (I.view self.driver.handling.io).made }
+    {
+        let Relay {
+            state,
+            limit: _,
+            far: _,
+            lists: _,
+            again: _,
+            able: _,
+            alloc: _,
+        } = self;
+        end_all(state).into_io()
+    }
+
     /// A round: a turn of the driver, which waits so many milliseconds at most, and not at all where that is `None`; then an accept, where
     /// there is a place; then a step of each direction of each connection, the lowest near handle first. Each connection that was open, or
     /// that it opened, is open still, was closed or failed; at an error too, which says why the round stopped: then the next one goes on.
@@ -398,6 +427,15 @@ impl<I: Sockets, F: Far<I>> Relay<I, F> {
         // of its second handle; and one that held nothing holds now what waited at its first handle, 4096 bytes at most.
         ensures forwards { OnOk result (IsTrue I.memory → HasKeys I.view self.old.driver.handling
             → HaveForwarded I.view self.old.driver self.old.open_ones self.new.driver self.new.open_ones) }
+        // The handle of a connection that it opens is one that its object made in it; it never makes one less.
+        ensures grows { (round_of result).opened ≢ []
+            → (I.view self.old.driver.handling.io).made < (I.view self.new.driver.handling.io).made }
+        ensures order { (I.view self.old.driver.handling.io).made ≤ (I.view self.new.driver.handling.io).made }
+        // Where each handle but the listener is a stream whose end isn't marked, it closes none.
+        ensures closes { IsTrue I.tells → AreGoingBut self.old.listener (I.view self.old.driver.handling.io).world
+            → (round_of result).closed ≡ [] }
+        ensures same { (self.new.listener ≡ self.old.listener) × (self.new.limit ≡ self.old.limit) }
+        ensures few { length self.new.open_ones ≤ self.new.limit }
     {
         if self.lists.reserve(self.state.open.len() + 1).is_err() {
             self.able = 0;
@@ -424,59 +462,6 @@ impl<I: Sockets, F: Far<I>> Relay<I, F> {
         self.able = able_behind(&worked, self.lists.ended.reached, self.limit);
         finish(worked, round_with(self.alloc, remote, &mut self.lists))
     }
-}
-
-// Drops the accept that waits.
-fn drop_accept<I: Sockets>(driver: &mut Reads<I>, op: Op, listener: SharedFd)
-    requires pending { IsPending (ops_in driver.old) op (IsAccept listener) }
-    ensures widens { Widens I.view I.tells driver.old driver.new }
-{
-    let _ = listener;
-    OpDriver::drop_op(driver, op);
-}
-
-// Drops the accept that waits, if one does.
-fn end_accept<I: Sockets>(
-    driver: &mut Reads<I>,
-    accept: Option<Op>,
-    listener: SharedFd,
-    open: &Vec<Connection>,
-)
-    requires sound { IsSound (ops_in driver.old) driver.old.handling.table listener accept open.now.items }
-    ensures served { AreServed (ops_in driver.new) driver.new.handling.table listener open.now.items }
-{
-    let _ = open.len();
-    match accept {
-        Some(op) => drop_accept(driver, op, listener),
-        None => {}
-    }
-}
-
-// Ends each connection.
-fn end_each<I: Sockets>(driver: &mut Reads<I>, listener: SharedFd, open: Vec<Connection>)
-    requires served { AreServed (ops_in driver.old) driver.old.handling.table listener open.items }
-{
-    let _ = listener;
-    let mut open = open;
-    while let Some(conn) = open.pop() {
-        conn.end(driver);
-    }
-    open.destroy_empty();
-}
-
-// Drops the accept that waits, and ends each connection.
-fn end_all<I: Sockets>(state: State<I>)
-    requires sound { IsSound (ops_in state.driver) state.driver.handling.table state.listener state.accept state.open.items }
-{
-    let State {
-        driver,
-        listener,
-        accept,
-        open,
-    } = state;
-    let mut driver = driver;
-    end_accept(&mut driver, accept, listener, &open);
-    end_each(&mut driver, listener, open);
 }
 
 impl<I: Sockets, F: Far<I>> Drop for Relay<I, F> {

@@ -5,10 +5,10 @@ ghost use Rattle.std.specs.Vec.{vec_len, vec_capacity};
 ghost use Rattle.ready_driver.specs.Io.{IsLater};
 ghost use Rattle.ready_driver.specs.LegacyState.{LegacyState, ops_in};
 ghost use Rattle.rent_buf.specs.declared.plain.Buf.{Buf};
-ghost use Rattle.relay_net.specs.Connection.{IsOver, IsOverIf, ServedFor, near_of};
+ghost use Rattle.relay_net.specs.Connection.{IsGoing, IsOver, IsOverIf, ServedFor, near_of};
 ghost use Rattle.relay_net.specs.Forwarding.{AreUntouched, HaveForwarded, RoundBehind, RoundBut, RoundOn, RoundTo};
 ghost use Rattle.relay_net.specs.Keyed.{KeepsKeys};
-ghost use Rattle.relay_net.specs.Relay.{GoesOn, IsSound, Serving, StopsUnless, connections_in};
+ghost use Rattle.relay_net.specs.Relay.{AreGoing, GoesOn, IsSound, Serving, StopsUnless, connections_in};
 ghost use Rattle.relay_net.specs.declared.connection.Connection.{Connection as Conn};
 ghost use Rattle.relay_net.specs.declared.round.Lost.{Lost as LostOne};
 ghost use Rattle.rent_buf.specs.Counts.{Rose};
@@ -95,6 +95,8 @@ fn serve_one<I: NonBlock>(state: &mut State<I>, alloc: Global, at: usize) -> Ser
     ensures forwards { IsTrue I.memory → (start : LegacyState I Buf) (was : List Conn)
         → RoundTo I.view start was state.old.driver state.old.open.items at → RoundOn I.view start was state.new.driver
         state.new.open.items at result }
+    ensures closes { IsTrue I.tells → AreGoing I.view state.old.driver state.old.listener state.old.open.items
+        → IsGoing result × AreGoing I.view state.new.driver state.new.listener state.new.open.items }
 {
     serve(&mut state.driver, alloc, &mut state.open[at])
 }
@@ -157,6 +159,8 @@ fn lose_at<I: NonBlock>(state: &mut State<I>, at: usize, fault: u16, ended: &mut
     ensures failed { (vec_len ended.new.failed ≡ vec_len ended.old.failed + 1)
         × (vec_capacity ended.new.failed ≡ vec_capacity ended.old.failed) }
     ensures closed { ended.new.closed ≡ ended.old.closed }
+    ensures going { IsTrue I.tells → AreGoing I.view state.old.driver state.old.listener state.old.open.items
+        → AreGoing I.view state.new.driver state.new.listener state.new.open.items }
 {
     let conn = state.open.remove(at);
     ended.failed.push_reserved(conn.lost(fault));
@@ -199,6 +203,8 @@ fn serve_at<I: NonBlock>(
         × (vec_capacity ended.new.closed ≡ vec_capacity ended.old.closed)
         × (vec_len ended.new.failed + vec_len state.new.open ≤ vec_len ended.old.failed + vec_len state.old.open)
         × (vec_capacity ended.new.failed ≡ vec_capacity ended.old.failed) }
+    ensures closes { IsTrue I.tells → AreGoing I.view state.old.driver state.old.listener state.old.open.items
+        → (ended.new.closed ≡ ended.old.closed) × AreGoing I.view state.new.driver state.new.listener state.new.open.items }
 {
     match serve_one(state, alloc, at) {
         Served::Open => Ok(true),
@@ -243,6 +249,8 @@ pub(crate) fn serve_all<I: NonBlock>(
     ensures forwards { IsTrue I.memory → (start : LegacyState I Buf) (was : List Conn)
         → AreUntouched I.view start was state.old.driver state.old.open.items → OnOk result (HaveForwarded I.view start was
         state.new.driver state.new.open.items) }
+    ensures closes { IsTrue I.tells → AreGoing I.view state.old.driver state.old.listener state.old.open.items
+        → ended.new.closed ≡ ended.old.closed }
 {
     let mut at = 0;
     while at < state.open.len() {

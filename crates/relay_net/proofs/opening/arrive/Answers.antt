@@ -7,10 +7,12 @@ use Rattle.relay_net.proofs.Rounds.{untouched_widens}
 use Rattle.relay_net.proofs.opening.arrive.Goals as goal
 
 pub returns-in-Made-clause-arrives : goal.returns-in-Made-clause-arrives
-returns-in-Made-clause-arrives g c =
-    fresh_new (ops_in c.args.state.now.driver) c.args.state.now.driver.handling.table c.poll_accept.new.driver.handling.table
-    c.args.state.now.listener
-    c.args.state.now.open.items c.in-Made.fd c.requires.sound.listens c.requires.sound.served c.in-Made.ensures.accepted
+returns-in-Made-clause-arrives g c = (
+  fresh_new (ops_in c.args.state.now.driver) c.args.state.now.driver.handling.table c.poll_accept.new.driver.handling.table
+      c.args.state.now.listener
+      c.args.state.now.open.items c.in-Made.fd c.requires.sound.listens c.requires.sound.served c.in-Made.ensures.accepted.0,
+  c.in-Made.ensures.accepted.1,
+)
 
 pub returns-in-Waits-clause-sound : goal.returns-in-Waits-clause-sound
 returns-in-Waits-clause-sound g c =

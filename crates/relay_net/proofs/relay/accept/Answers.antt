@@ -75,3 +75,10 @@ returns-in_ok-open_one-in-Made-clause-forwards g c = λ memory start was opening
     c.in_ok-open_one-in-Made.ensures.forwards memory start was
     (c.arrive.ensures.opening start was (c.begin_accept.ensures.opening start was opening))
     (c.arrive.ensures.forwards memory start was (c.begin_accept.ensures.forwards memory start was untouched))
+
+pub returns-in_ok-open_one-in-Made-clause-grows : goal.returns-in_ok-open_one-in-Made-clause-grows
+returns-in_ok-open_one-in-Made-clause-grows g c = λ some.
+    let first = c.begin_accept.ensures.keyed.made in
+    let second = c.in-Made.ensures.arrives.1 in
+    let third = c.open_one.ensures.keyed.made in
+    omega (arith, first, second, third)

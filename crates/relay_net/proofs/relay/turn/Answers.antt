@@ -5,6 +5,14 @@ use Rattle.relay_net.proofs.Showing.{turned_seen}
 use Rattle.relay_net.proofs.Rounds.{untouched_starts}
 use Rattle.relay_net.proofs.relay.turn.Goals as goal
 
+pub returns-in-None-clause-opening : goal.returns-in-None-clause-opening
+returns-in-None-clause-opening g c =
+    opening_widens g.I.NonBlock.view g.I.NonBlock.tells c.args.state.now.driver c.args.state.now.driver c.submit-turned.new.self
+    c.args.state.now.open.items c.args.state.now.open.items c.args.state.now.listener
+    (turned_widens g.I.NonBlock.view g.I.NonBlock.tells g.I.NonBlock.memory g.I.NonBlock.reporting c.args.state.now.driver
+    c.submit-turned.new.self c.submit-turned.result c.submit-turned.ensures.turns)
+    c.requires.sound.served (opening_starts g.I.NonBlock.view g.I.NonBlock.tells c.args.state.now.driver c.args.state.now.open.items)
+
 pub returns-in-Some-clause-opening : goal.returns-in-Some-clause-opening
 returns-in-Some-clause-opening g c =
     opening_widens g.I.NonBlock.view g.I.NonBlock.tells c.args.state.now.driver c.args.state.now.driver c.park_timeout-parked.new.self

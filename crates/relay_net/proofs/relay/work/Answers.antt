@@ -1,10 +1,11 @@
 use Rattle.std.proofs.Common.{◌∙◌, ap, arith, subst, sym, []}
-use Rattle.relay_net.specs.Relay.{Serving}
+use Rattle.relay_net.specs.Relay.{AreGoing, Serving}
 use Rattle.relay_net.specs.Opening.{WasOpened}
 use Rattle.relay_net.proofs.Opens.{opening_serving, opening_starts}
 use Rattle.relay_net.proofs.Opened.{accept_within, opened_becomes}
 use Rattle.relay_net.proofs.Relays.{stops_later}
 use Rattle.relay_net.proofs.Listens.{ok_given, on_ok}
+use Rattle.relay_net.proofs.Closing.{opening_going}
 use Rattle.relay_net.proofs.Keyed.{keeps_then}
 use Rattle.relay_net.proofs.relay.work.Goals as goal
 
@@ -84,3 +85,22 @@ pub returns-clause-forwards : goal.returns-clause-forwards
 returns-clause-forwards g c =
     ok_given c.serve_all.result _ (λ from memory start was opening untouched.
     from _ (c.serve_all.ensures.forwards memory start was (c.in_ok-accept.ensures.forwards memory start was opening untouched)))
+
+pub returns-in_err-accept-clause-closes : goal.returns-in_err-accept-clause-closes
+returns-in_err-accept-clause-closes g c = λ told going. ap (λ e. e.closed.items) c.accept.ensures.ended ∙ c.requires.none.0
+
+pub returns-clause-closes : goal.returns-clause-closes
+returns-clause-closes g c = λ told going.
+    let still = opening_going g.I.NonBlock.view g.I.NonBlock.tells c.args.state.now.driver c.accept.new.state.driver
+    c.args.state.now.listener c.args.state.now.open.items c.accept.new.state.open.items
+    (c.accept.ensures.opening c.args.state.now.driver c.args.state.now.open.items
+    (opening_starts g.I.NonBlock.view g.I.NonBlock.tells c.args.state.now.driver c.args.state.now.open.items)) told going in
+    ap (λ v. v.items) (c.serve_all.ensures.closes told
+    (subst (λ h. AreGoing g.I.NonBlock.view c.accept.new.state.driver h c.accept.new.state.open.items) (sym c.accept.ensures.same) still))
+    ∙ (ap (λ e. e.closed.items) c.accept.ensures.ended ∙ c.requires.none.0)
+
+pub returns-clause-grows : goal.returns-clause-grows
+returns-clause-grows g c = λ some.
+    let first = c.accept.ensures.grows some in
+    let second = c.serve_all.ensures.keyed.made in
+    omega (arith, first, second)

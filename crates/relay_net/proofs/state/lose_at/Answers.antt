@@ -3,7 +3,9 @@ use Rattle.std.specs.List.{remove}
 use Rattle.std.proofs.lemmas.Option.{slice_get_read}
 use Rattle.ready_driver.specs.LegacyState.{ops_in}
 use Rattle.std.specs.Prelude.{IsPermutation}
-use Rattle.relay_net.specs.Relay.{IsSound, Serving, connections_in}
+use Rattle.relay_net.specs.Connection.{far_of, near_of}
+use Rattle.relay_net.specs.Relay.{AreGoing, IsSound, Serving, connections_in}
+use Rattle.relay_net.proofs.Closing.{removed_going}
 use Rattle.relay_net.proofs.Relays.{serving_lost, sound_removed}
 use Rattle.relay_net.proofs.Numbers.{numbers_lost}
 use Rattle.relay_net.specs.Forwarding.{RoundTo}
@@ -72,3 +74,9 @@ returns-clause-forwards g c = λ memory start was round.
     c.remove-conn.result c.args.state.now.listener c.requires.sound.served
     (slice_get_read c.args.state.now.open.items _ c.args.at c.remove-conn.result refl c.requires.placed c.remove-conn.ensures.value)
     c.end.ensures.ends c.end.ensures.seen memory round)
+
+pub returns-clause-going : goal.returns-clause-going
+returns-clause-going g c = λ told going.
+    subst (AreGoing g.I.NonBlock.view c.end.new.driver c.args.state.now.listener) (sym c.remove-conn.ensures.items)
+    (removed_going g.I.NonBlock.view g.I.NonBlock.tells c.args.state.now.driver c.end.new.driver c.args.state.now.listener
+    (near_of c.remove-conn.result) (far_of c.remove-conn.result) c.args.state.now.open.items c.args.at c.end.ensures.ends told going)

@@ -52,6 +52,9 @@ loop-at-preserved-then-branch g c =
           subst (λ n. RoundTo g.I.NonBlock.view start was c.serve_at.new.state.driver c.serve_at.new.state.open.items n) next
           (subst (λ b. RoundBehind g.I.NonBlock.view start was c.serve_at.new.state.driver c.serve_at.new.state.open.items c.loop-at.at
           (Ok b)) c.if-branch.true (c.in_ok-serve_at.ensures.forwards memory start was (before.forwards memory start was untouched)));
+      closes = λ told going.
+          let still = before.closes told going in
+          let more = now.closes told still.1 in (more.0 ∙ still.0, more.1);
     }
 
 pub loop-at-preserved : goal.loop-at-preserved
@@ -89,6 +92,9 @@ loop-at-preserved g c =
       forwards = λ memory start was untouched.
           subst (λ b. RoundBehind g.I.NonBlock.view start was c.serve_at.new.state.driver c.serve_at.new.state.open.items c.loop-at.at
           (Ok b)) c.if-branch.false (c.in_ok-serve_at.ensures.forwards memory start was (before.forwards memory start was untouched));
+      closes = λ told going.
+          let still = before.closes told going in
+          let more = now.closes told still.1 in (more.0 ∙ still.0, more.1);
     }
 
 pub returns-in_err-serve_at-clause-keyed : goal.returns-in_err-serve_at-clause-keyed
@@ -114,6 +120,7 @@ loop-at-init g c =
       forwards = λ memory start was untouched.
           round_starts g.I.NonBlock.view g.I.NonBlock.tells g.I.NonBlock.memory g.met.I.NonBlock.memory_tells start
           c.args.state.now.driver was c.args.state.now.open.items untouched;
+      closes = λ told going. (refl, going);
     }
 
 pub returns-clause-forwards : goal.returns-clause-forwards
@@ -123,3 +130,11 @@ returns-clause-forwards g c = λ memory start was untouched.
     round_ends g.I.NonBlock.view g.I.NonBlock.tells g.I.NonBlock.memory g.met.I.NonBlock.memory_tells start c.loop-at.state.driver was
     c.loop-at.state.open.items c.loop-at.at (omega (arith, size, test))
     (c.loop-at.invariant.forwards memory start was untouched)
+
+pub returns-in_err-serve_at-clause-closes : goal.returns-in_err-serve_at-clause-closes
+returns-in_err-serve_at-clause-closes g c = λ told going.
+    let still = c.loop-at.invariant.closes told going in
+    (c.serve_at.ensures.closes told still.1).0 ∙ still.0
+
+pub returns-clause-closes : goal.returns-clause-closes
+returns-clause-closes g c = λ told going. (c.loop-at.invariant.closes told going).0

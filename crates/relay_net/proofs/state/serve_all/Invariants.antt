@@ -1,4 +1,4 @@
-use Rattle.std.proofs.Common.{◌≡◌, ◌≤◌, ◌+◌, ◌*◌, ◌-◌, List}
+use Rattle.std.proofs.Common.{◌≡◌, ◌≤◌, ◌+◌, ◌*◌, ◌-◌, IsTrue, List}
 use Rattle.std.specs.Vec.{vec_len, vec_capacity}
 use Rattle.rent_buf.specs.declared.plain.Buf.{Buf}
 use Rattle.ready_driver.specs.Io.{IsLater}
@@ -6,7 +6,7 @@ use Rattle.ready_driver.specs.LegacyState.{LegacyState, ops_in}
 use Rattle.std.specs.Prelude.{IsPermutation, IsTrue}
 use Rattle.relay_net.specs.Forwarding.{AreUntouched, RoundTo}
 use Rattle.relay_net.specs.Keyed.{KeepsKeys}
-use Rattle.relay_net.specs.Relay.{IsSound, Serving, connections_in}
+use Rattle.relay_net.specs.Relay.{AreGoing, IsSound, Serving, connections_in}
 use Rattle.relay_net.specs.declared.connection.Connection.{Connection}
 use Rattle.relay_net.proofs.state.serve_all.Given as goal
 
@@ -32,6 +32,9 @@ invariant-loop-at g l = record {
   forwards : IsTrue g.I.NonBlock.memory → (start : LegacyState g.row.I.Denot Buf) (was : List Connection)
       → AreUntouched g.I.NonBlock.view start was l.initial.state.driver l.initial.state.open.items
       → RoundTo g.I.NonBlock.view start was l.state.driver l.state.open.items l.at;
+  closes : IsTrue g.I.NonBlock.tells
+      → AreGoing g.I.NonBlock.view l.initial.state.driver l.initial.state.listener l.initial.state.open.items
+      → (l.ended.closed ≡ l.initial.ended.closed) × AreGoing g.I.NonBlock.view l.state.driver l.state.listener l.state.open.items;
 }
 
 -- Each turn serves one or ends one.

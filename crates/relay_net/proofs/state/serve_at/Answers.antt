@@ -1,4 +1,4 @@
-use Rattle.std.proofs.Common.{arith}
+use Rattle.std.proofs.Common.{arith, refl}
 use Rattle.std.proofs.lemmas.List.Sorted.{IsPermutation-trans}
 use Rattle.relay_net.proofs.Numbers.{numbers_kept}
 use Rattle.relay_net.proofs.Keyed.{keeps_then}
@@ -64,3 +64,16 @@ returns-in-Closed-clause-forwards g c = λ memory start was round.
 pub returns-in-Failed-clause-forwards : goal.returns-in-Failed-clause-forwards
 returns-in-Failed-clause-forwards g c = λ memory start was round.
     c.lose_at.ensures.forwards memory start was (c.in-Failed.ensures.forwards memory start was round)
+
+pub returns-in-Open-clause-closes : goal.returns-in-Open-clause-closes
+returns-in-Open-clause-closes g c = λ told going. (refl, (c.in-Open.ensures.closes told going).1)
+
+pub returns-in-Stopped-clause-closes : goal.returns-in-Stopped-clause-closes
+returns-in-Stopped-clause-closes g c = λ told going. (refl, (c.in-Stopped.ensures.closes told going).1)
+
+pub returns-in-Closed-clause-closes : goal.returns-in-Closed-clause-closes
+returns-in-Closed-clause-closes g c = λ told going. absurd (c.in-Closed.ensures.closes told going).0
+
+pub returns-in-Failed-clause-closes : goal.returns-in-Failed-clause-closes
+returns-in-Failed-clause-closes g c = λ told going.
+    (c.lose_at.ensures.closed, c.lose_at.ensures.going told (c.in-Failed.ensures.closes told going).1)

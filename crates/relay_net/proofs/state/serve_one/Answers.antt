@@ -2,6 +2,7 @@ use Rattle.std.proofs.Common.{refl, subst}
 use Rattle.std.proofs.lemmas.Option.{slice_get_read}
 use Rattle.ready_driver.specs.LegacyState.{ops_in}
 use Rattle.relay_net.specs.Connection.{IsOverIf}
+use Rattle.relay_net.proofs.Closing.{served_going}
 use Rattle.relay_net.proofs.Places.{get_set}
 use Rattle.relay_net.proofs.Relays.{serving_set, sound_set}
 use Rattle.relay_net.proofs.Beside.{found_same}
@@ -65,3 +66,12 @@ returns-clause-forwards g c = λ memory start was round.
     c.index_mut.result.now c.serve.new.conn c.serve.result c.args.state.now.listener c.requires.sound.served
     (slice_get_read c.args.state.now.open.items _ c.args.at c.index_mut.result.now refl c.requires.placed c.index_mut.ensures.value)
     c.serve.ensures.serves c.serve.ensures.seen memory (λ can going kept_open. c.serve.ensures.forwards memory can going kept_open) round
+
+pub returns-clause-closes : goal.returns-clause-closes
+returns-clause-closes g c = λ told going.
+    let there = slice_get_read c.args.state.now.open.items _ c.args.at c.index_mut.result.now refl c.requires.placed
+    c.index_mut.ensures.value in
+    served_going g.I.NonBlock.view g.I.NonBlock.tells c.args.state.now.driver c.serve.new.driver (ops_in c.args.state.now.driver)
+    c.args.state.now.driver.handling.table c.args.state.now.listener c.args.state.now.open.items c.args.at c.index_mut.result.now
+    c.serve.new.conn c.serve.result (c.requires.sound.served.each c.args.at c.index_mut.result.now there) there c.serve.ensures.serves
+    c.serve.ensures.over told going

@@ -1,13 +1,15 @@
 use Rattle.std.proofs.Common.{rules, ◌≡◌, ◌<◌, ◌∙◌, ap, arith, length, subst, sym, []}
-use Rattle.relay_net.specs.Relay.{IsAmong, Serving}
+use Rattle.relay_net.specs.Keeping.{world_of}
+use Rattle.relay_net.specs.Relay.{AreGoing, IsAmong, Serving}
 use Rattle.relay_net.specs.Relaying.{RoundStops, round_of}
 use Rattle.relay_net.proofs.Opens.{opening_serving, opening_starts}
 use Rattle.relay_net.proofs.Opened.{accept_within, none_opened}
 use Rattle.relay_net.specs.Opening.{AcceptFails, WasOpened}
 use Rattle.std.specs.Vec.{vec_len}
-use Rattle.relay_net.specs.Listening.{IsAtHand, MayListen}
+use Rattle.relay_net.specs.Listening.{AreGoingBut, IsAtHand, MayListen}
 use Rattle.relay_net.proofs.Listens.{map_ok, ok_through}
 use Rattle.relay_net.specs.Keyed.{HasKeys}
+use Rattle.relay_net.proofs.Closing.{opening_going}
 use Rattle.relay_net.proofs.Keyed.{sound_registered}
 use Rattle.relay_net.specs.Forwarding.{HaveForwarded}
 use Rattle.relay_net.proofs.relay.Relay.round.Goals as goal
@@ -151,3 +153,36 @@ returns-clause-forwards g c =
     (goes memory c.self.inside.state.driver c.self.inside.state.open.items c.turn-remote.ensures.opening
     (map_ok c.turn-remote.result.1 _ _ (λ starts. starts memory (subst (λ d. HasKeys g.I.NonBlock.view d.handling) driver has))
     c.turn-remote.ensures.forwards)))) c.behind-worked.ensures.forwards)
+
+pub returns-clause-grows : goal.returns-clause-grows
+returns-clause-grows g c = λ some.
+    let driver : c.args.self.now.driver ≡ c.self.inside.state.driver = search rules in
+    let opened : (round_of c.finish.result).opened ≡ c.behind-worked.new.lists.opened.items =
+    ap (λ r. r.opened) c.finish.ensures.round ∙ c.round_with.ensures.opened.0 in
+    let start = ap (λ d. (g.I.NonBlock.view d.handling.io).made) driver in
+    let first = c.turn-remote.ensures.keyed.made in
+    let second = c.behind-worked.ensures.grows (λ none. some (opened ∙ none)) in
+    omega (arith, start, first, second)
+
+pub returns-clause-order : goal.returns-clause-order
+returns-clause-order g c =
+    let driver : c.args.self.now.driver ≡ c.self.inside.state.driver = search rules in
+    let start = ap (λ d. (g.I.NonBlock.view d.handling.io).made) driver in
+    let first = c.turn-remote.ensures.keyed.made in
+    let second = c.behind-worked.ensures.keyed.made in
+    omega (arith, start, first, second)
+
+pub returns-clause-closes : goal.returns-clause-closes
+returns-clause-closes g c = λ told streams.
+    let driver : c.args.self.now.driver ≡ c.self.inside.state.driver = search rules in
+    let listener : c.args.self.now.listener ≡ c.self.inside.state.listener = search rules in
+    let here : AreGoingBut c.self.inside.state.listener (world_of g.I.NonBlock.view c.self.inside.state.driver) =
+    subst (λ d. AreGoingBut c.self.inside.state.listener (world_of g.I.NonBlock.view d)) driver
+    (subst (λ h. AreGoingBut h (world_of g.I.NonBlock.view c.args.self.now.driver)) listener streams) in
+    let still = opening_going g.I.NonBlock.view g.I.NonBlock.tells c.self.inside.state.driver c.turn-remote.new.state.driver
+    c.self.inside.state.listener c.self.inside.state.open.items c.turn-remote.new.state.open.items c.turn-remote.ensures.opening told
+    (record { streams = here; marked = c.self.invariant.4 told }) in
+    ap (λ r. r.closed) c.finish.ensures.round ∙ c.round_with.ensures.lists.0
+    ∙ c.behind-worked.ensures.closes told
+    (subst (λ h. AreGoing g.I.NonBlock.view c.turn-remote.new.state.driver h c.turn-remote.new.state.open.items)
+    (sym c.turn-remote.ensures.same.0) still)

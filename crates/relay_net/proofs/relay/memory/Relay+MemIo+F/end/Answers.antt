@@ -2,7 +2,7 @@ use Rattle.std.proofs.Common.{subst, sym}
 use Rattle.ready_driver.specs.LegacyState.{ops_in}
 use Rattle.relay_net.specs.Relay.{IsSound}
 use Rattle.relay_net.proofs.Feeds.{ended_kept}
-use Rattle.relay_net.proofs.Marks.{all_marked}
+use Rattle.relay_net.proofs.Marks.{all_still}
 use Rattle.relay_net.proofs.relay.memory.Relay+MemIo+F.end.Goals as goal
 
 pub invariant_of-self : goal.invariant_of-self
@@ -12,7 +12,7 @@ invariant_of-self g c = (
   c.self.invariant.1,
   c.self.invariant.2,
   c.self.invariant.3,
-  λ told. all_marked c.self.inside.state.driver.handling.io.world c.end.new.self.handling.io.world c.self.inside.state.open.items
+  λ told. all_still c.self.inside.state.driver.handling.io.world c.end.new.self.handling.io.world c.self.inside.state.open.items
       (ended_kept c.self.inside.state.driver.handling.io.world c.end.new.self.handling.io.world c.args.h c.end.result
       c.end.ensures.ends) (c.self.invariant.4 told),
 )

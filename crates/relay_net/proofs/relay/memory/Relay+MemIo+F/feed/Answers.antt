@@ -4,7 +4,7 @@ use Rattle.relay_net.specs.Flow.{line}
 use Rattle.ready_driver.specs.LegacyState.{ops_in}
 use Rattle.relay_net.specs.Relay.{IsSound}
 use Rattle.relay_net.proofs.Feeds.{fed_kept, feeds_line}
-use Rattle.relay_net.proofs.Marks.{all_marked}
+use Rattle.relay_net.proofs.Marks.{all_still}
 use Rattle.relay_net.proofs.relay.memory.Relay+MemIo+F.feed.Goals as goal
 
 pub returns-clause-line : goal.returns-clause-line
@@ -23,7 +23,7 @@ invariant_of-self g c = (
   c.self.invariant.1,
   c.self.invariant.2,
   c.self.invariant.3,
-  λ told. all_marked c.self.inside.state.driver.handling.io.world c.feed.new.self.handling.io.world c.self.inside.state.open.items
+  λ told. all_still c.self.inside.state.driver.handling.io.world c.feed.new.self.handling.io.world c.self.inside.state.open.items
       (fed_kept c.args.bytes.now c.self.inside.state.driver.handling.io.world c.feed.new.self.handling.io.world c.args.h c.feed.result
       c.feed.ensures.feeds) (c.self.invariant.4 told),
 )
