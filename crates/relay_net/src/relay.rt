@@ -171,6 +171,7 @@ fn accept<I: Sockets, F: Far<I>>(
         → Opening I.view I.tells start was state.old.driver state.old.open.items
         → AreUntouched I.view start was state.old.driver state.old.open.items
         → AreUntouched I.view start was state.new.driver state.new.open.items) }
+    ensures one { length lists.new.opened.items ≤ 1 }
     ensures grows { lists.new.opened.items ≢ []
         → (I.view state.old.driver.handling.io).made < (I.view state.new.driver.handling.io).made }
     ensures same { state.new.listener ≡ state.old.listener }
@@ -236,6 +237,7 @@ fn work<I: Sockets, F: Far<I>>(
         → Opening I.view I.tells start was state.old.driver state.old.open.items
         → AreUntouched I.view start was state.old.driver state.old.open.items
         → HaveForwarded I.view start was state.new.driver state.new.open.items) }
+    ensures one { length lists.new.opened.items ≤ 1 }
     ensures grows { lists.new.opened.items ≢ []
         → (I.view state.old.driver.handling.io).made < (I.view state.new.driver.handling.io).made }
     ensures closes { IsTrue I.tells → AreGoing I.view state.old.driver state.old.listener state.old.open.items
@@ -291,6 +293,7 @@ fn behind<I: Sockets, F: Far<I>>(
         → Opening I.view I.tells start was state.old.driver state.old.open.items
         → OnOk turned (AreUntouched I.view start was state.old.driver state.old.open.items)
         → HaveForwarded I.view start was state.new.driver state.new.open.items) }
+    ensures one { length lists.new.opened.items ≤ 1 }
     ensures grows { lists.new.opened.items ≢ []
         → (I.view state.old.driver.handling.io).made < (I.view state.new.driver.handling.io).made }
     ensures closes { IsTrue I.tells → AreGoing I.view state.old.driver state.old.listener state.old.open.items
@@ -427,9 +430,11 @@ impl<I: Sockets, F: Far<I>> Relay<I, F> {
         // of its second handle; and one that held nothing holds now what waited at its first handle, 4096 bytes at most.
         ensures forwards { OnOk result (IsTrue I.memory → HasKeys I.view self.old.driver.handling
             → HaveForwarded I.view self.old.driver self.old.open_ones self.new.driver self.new.open_ones) }
-        // The handle of a connection that it opens is one that its object made in it; it never makes one less.
+        // Where it opens one, the object's count of handles rises in it; it never falls.
         ensures grows { (round_of result).opened ≢ []
             → (I.view self.old.driver.handling.io).made < (I.view self.new.driver.handling.io).made }
+        // It opens one at most.
+        ensures one { length (round_of result).opened ≤ 1 }
         ensures order { (I.view self.old.driver.handling.io).made ≤ (I.view self.new.driver.handling.io).made }
         // Where each handle but the listener is a stream whose end isn't marked, it closes none.
         ensures closes { IsTrue I.tells → AreGoingBut self.old.listener (I.view self.old.driver.handling.io).world
