@@ -1,1 +1,4 @@
 mod Lending
+mod Listening
+mod Rounds
+mod Running

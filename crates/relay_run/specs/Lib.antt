@@ -1,2 +1,1 @@
-pub mod NetPlace
 pub mod Relaying

@@ -1,24 +1,28 @@
 //! The run: it listens, makes the relay and its rounds, and counts the connections that were closed.
-ghost use Rattle.std.specs.Prelude.{◌≡◌, ◌≤◌, ◌+◌, ◌*◌, true, [], IfOk, IfErr};
+ghost use Rattle.std.specs.Prelude.{◌≡◌, ◌≤◌, ◌+◌, ◌*◌, true, false, IfOk, IfErr, IsTrue};
 ghost use Rattle.rent_buf.specs.Counts.{Rose};
-ghost use Rattle.ready_driver.specs.Registry.{is_users};
+ghost use Rattle.wake_core.specs.declared.state.TheConstants.{PUSH_PARTS};
+ghost use Rattle.ready_driver.specs.Io.{IoView};
+ghost use Rattle.ready_driver.specs.Registry.{is_old, is_users};
 ghost use Rattle.relay_net.specs.Keeping.{StopsFor};
 ghost use Rattle.relay_run.specs.declared.plan.TheConstants.{MOST_LIMIT, MOST_RELAY_ROUNDS};
-ghost use Rattle.relay_run.specs.Relaying.{ClosesNone, ListensFor, MakesRounds};
+ghost use Rattle.relay_run.specs.Relaying.{ClosesNone, HasListened, IsFresh, ListensFor, MakesRounds, OpensEach, RunsOver};
+ghost use Rattle.relay_run.specs.Relaying.{ended_by, refused_by};
 
-use crate::lent::{Lent, NetPlaces, Ran, give_back, lend};
+use crate::lent::{Lent, NetPlaces, give_back, lend};
 use crate::plan::{MOST_LIMIT, MOST_RELAY_ROUNDS, Plan};
 use driver_core::MOST_GIVEN;
 use handle_core::SharedFd;
 use ready_driver::{LegacyDriver, NonBlockError, Sockets};
 use relay_net::{Far, Mirror, PortFar, Relay, RelayError};
 use rent_buf::Buf;
+use ring_core::MOST_HANDLES;
 use std::alloc::Global;
 use std::marker::Brand;
 use std::sync::Wait;
-use std::sync::ledger::Ledger;
+use std::sync::ledger::{Blank, Ledger};
 use std::time::Clock;
-use wake_core::{Sleeper, WakeCell, Work, with_sleeper};
+use wake_core::{PUSH_PARTS, Sleeper, WakeCell};
 
 // How many milliseconds a round waits at most.
 const MILLIS: u64 = 1;
@@ -32,6 +36,12 @@ pub enum Relayed {
     Fault,
     /// Memory ran out, or no number was left for a handle.
     OutOfMemory,
+}
+
+// An object, and how the run over it ended.
+struct Over<I> {
+    net: I,
+    relayed: Relayed,
 }
 
 /// Listens with an object on the port of a plan, makes its rounds, each of which waits a millisecond at most, and counts the connections
@@ -48,111 +58,120 @@ pub fn relay_all<R: Wait + Clock, N: Sockets>(
     ensures order { (N.view net.old).faults ≤ (N.view net.new).faults }
     ensures listens { ListensFor result (N.view net.old).made (N.view net.new).made }
     ensures none { ClosesNone plan.rounds result }
+    ensures opens { IsFresh N.memory (N.view net.old) →
+        OpensEach result plan.limit plan.rounds ((N.view net.old).made + 1) (N.view net.new).made }
 {
-    let ran = Ran {
-        net,
-        relayed: Relayed::OutOfMemory,
-    };
-    let ran = relay_at::<R, N, Brand>(rt, alloc, plan, ran);
-    let Ran { net: _, relayed } = ran;
+    let over = relay_at::<R, N, Brand>(rt, alloc, plan, net);
+    let Over { net: _, relayed } = over;
     relayed
 }
 
-// The same of an object at the place of the type.
+// The same with an object whose borrow has the name of the type.
 fn relay_at<'a, R: Wait + Clock, N: Sockets, P: NetPlaces>(
     rt: &R,
     alloc: Global,
     plan: Plan,
-    ran: Ran<'a, N>,
-) -> Ran<'a, N>
+    net: &'a mut N,
+) -> Over<&'a mut N>
     requires limit { plan.limit ≤ MOST_LIMIT }
     requires rounds { plan.rounds ≤ MOST_RELAY_ROUNDS }
-    requires net { ran.net.ghost_name ≡ P.net }
-    requires faults { (N.view ran.net.now).faults ≡ P.faults }
-    requires made { (N.view ran.net.now).made ≡ P.made }
+    requires net { net.ghost_name ≡ P.net }
     ensures same { result.net.ghost_name ≡ P.net }
-    ensures fault { result.relayed ≡ Relayed.Fault → Rose P.faults (N.view result.net.now).faults }
-    ensures order { P.faults ≤ (N.view result.net.now).faults }
-    ensures listens { ListensFor result.relayed P.made (N.view result.net.now).made }
-    ensures none { ClosesNone plan.rounds result.relayed }
+    ensures runs { RunsOver N.memory plan.limit plan.rounds (N.view net.old) (N.view result.net.now) result.relayed }
 {
-    let mut lent: Lent<'a, N, P> = lend(ran);
-    let relayed = run_over(rt, alloc, plan, &mut lent);
-    give_back(relayed, lent)
+    let lent: Lent<'a, N, P> = lend(net);
+    let Over { net, relayed } = run_over(rt, alloc, plan, lent);
+    Over {
+        net: give_back(net),
+        relayed,
+    }
 }
 
 // A run over an object, with a sleeper of its own.
-fn run_over<R: Wait + Clock, I: Sockets>(rt: &R, alloc: Global, plan: Plan, net: I) -> Relayed
+fn run_over<R: Wait + Clock, I: Sockets>(rt: &R, alloc: Global, plan: Plan, net: I) -> Over<I>
     requires limit { plan.limit ≤ MOST_LIMIT }
     requires rounds { plan.rounds ≤ MOST_RELAY_ROUNDS }
-    ensures none { ClosesNone plan.rounds result }
+    ensures runs { RunsOver I.memory plan.limit plan.rounds (I.view net) (I.view result.net) result.relayed }
 {
-    let running = Running {
-        rt,
-        alloc,
-        plan,
-        net,
-    };
-    match with_sleeper(alloc, running) {
-        Ok(relayed) => relayed,
-        Err(_) => Relayed::OutOfMemory,
-    }
+    let pushes = Blank::new(PUSH_PARTS);
+    let drains = Blank::new(1);
+    run_counted::<R, I, Brand, Brand>(rt, alloc, plan, net, pushes, drains)
 }
 
-// A run that is to be made.
-#[derive(Drop)]
-struct Running<'a, R, I: Sockets> {
-    rt: &'a R,
+// The same, with a sleeper over these ledgers.
+fn run_counted<R: Wait + Clock, I: Sockets, P: Ledger + Send + Sync, D: Ledger + Send + Sync>(
+    rt: &R,
     alloc: Global,
     plan: Plan,
     net: I,
-    ghost limit: { plan.limit ≤ MOST_LIMIT },
-    ghost rounds: { plan.rounds ≤ MOST_RELAY_ROUNDS },
-}
-
-impl<'a, R: Wait + Clock, I: Sockets> Work for Running<'a, R, I> {
-    type Out = Relayed;
-
-    // Without a round none was closed.
-    ghost gives = { λ work out. ClosesNone work.plan.rounds out };
-
-    fn run<P: Ledger + Send + Sync, D: Ledger + Send + Sync>(
-        self,
-        _cell: WakeCell<P, D>,
-        sleeper: Sleeper<P, D>,
-    ) -> Relayed {
-        let Running {
-            rt,
-            alloc,
-            plan,
+    pushes: Blank,
+    drains: Blank,
+) -> Over<I>
+    requires limit { plan.limit ≤ MOST_LIMIT }
+    requires rounds { plan.rounds ≤ MOST_RELAY_ROUNDS }
+    requires pushes { (pushes.name ≡ P.name) × (pushes.parts ≡ P.parts) × (pushes.parts ≡ PUSH_PARTS) }
+    requires drains { (drains.name ≡ D.name) × (drains.parts ≡ D.parts) × (drains.parts ≡ 1) }
+    ensures runs { RunsOver I.memory plan.limit plan.rounds (I.view net) (I.view result.net) result.relayed }
+{
+    let Ok((_cell, sleeper)) = WakeCell::<P, D>::new(alloc, pushes, drains) else {
+        return Over {
             net,
-        } = self;
-        let mut sleeper = sleeper;
-        listen(rt, alloc, plan, net, &mut sleeper)
-    }
+            relayed: Relayed::OutOfMemory,
+        };
+    };
+    let mut sleeper = sleeper;
+    listen(rt, alloc, plan, net, &mut sleeper)
 }
 
-// Listens, and makes the rounds.
+// Listens, where a number is left for a handle, and makes the rounds.
 fn listen<R: Wait + Clock, I: Sockets, P: Ledger, D: Ledger>(
     rt: &R,
     alloc: Global,
     plan: Plan,
     net: I,
     sleeper: &mut Sleeper<P, D>,
-) -> Relayed
+) -> Over<I>
     requires limit { plan.limit ≤ MOST_LIMIT }
     requires rounds { plan.rounds ≤ MOST_RELAY_ROUNDS }
-    ensures none { ClosesNone plan.rounds result }
+    ensures runs { RunsOver I.memory plan.limit plan.rounds (I.view net) (I.view result.net) result.relayed }
 {
     let mut driver: LegacyDriver<I, Buf> = LegacyDriver::over(alloc, net);
+    if !has_number(&driver) {
+        return Over {
+            net: driver.into_io(),
+            relayed: Relayed::OutOfMemory,
+        };
+    }
     let listener = match driver.listen(plan.port) {
         Ok(listener) => listener,
-        Err(NonBlockError::Fault(_)) => return Relayed::Fault,
-        Err(NonBlockError::OutOfMemory) => return Relayed::OutOfMemory,
+        Err(why) => {
+            return Over {
+                net: driver.into_io(),
+                relayed: refused(why),
+            };
+        }
     };
     match plan.to {
         None => relay(rt, alloc, plan, driver, listener, Mirror, sleeper),
         Some(to) => relay(rt, alloc, plan, driver, listener, PortFar::new(to), sleeper),
+    }
+}
+
+// The number of the object's next handle can be new.
+fn has_number<I: Sockets>(driver: &LegacyDriver<I, Buf>) -> bool
+    ensures { IsTrue result → is_old driver.now.handling.table (I.view driver.now.handling.io).made ≡ false }
+{
+    let next = driver.io().count();
+    next < MOST_HANDLES && !driver.known(next)
+}
+
+// How a run ended whose object doesn't listen.
+fn refused(why: NonBlockError) -> Relayed
+    ensures { result ≡ refused_by why }
+{
+    match why {
+        NonBlockError::Fault(_) => Relayed::Fault,
+        NonBlockError::OutOfMemory => Relayed::OutOfMemory,
     }
 }
 
@@ -165,18 +184,35 @@ fn relay<R: Wait + Clock, I: Sockets, F: Far<I>, P: Ledger, D: Ledger>(
     listener: SharedFd,
     far: F,
     sleeper: &mut Sleeper<P, D>,
-) -> Relayed
+) -> Over<I>
     requires limit { plan.limit ≤ MOST_LIMIT }
     requires rounds { plan.rounds ≤ MOST_RELAY_ROUNDS }
     requires held { is_users driver.handling.table listener ≡ true }
     requires given { driver.given ≡ 0 }
-    ensures none { ClosesNone plan.rounds result }
+    ensures runs { (before : IoView) → HasListened I.view I.memory before driver.handling listener →
+        RunsOver I.memory plan.limit plan.rounds before (I.view result.net) result.relayed }
 {
-    let Ok(relay) = Relay::new(alloc, driver, listener, plan.limit, far) else {
-        return Relayed::OutOfMemory;
+    let mut relay = match Relay::new(alloc, driver, listener, plan.limit, far) {
+        Ok(relay) => relay,
+        Err((_, driver)) => {
+            return Over {
+                net: driver.into_io(),
+                relayed: Relayed::OutOfMemory,
+            };
+        }
     };
-    let mut relay = relay;
-    match make_rounds(rt, &mut relay, sleeper, plan.rounds) {
+    let made = make_rounds(rt, &mut relay, sleeper, plan.rounds);
+    Over {
+        net: relay.into_io(),
+        relayed: ended(made),
+    }
+}
+
+// How a run ended whose rounds came to this.
+fn ended(made: Result<u64, RelayError>) -> Relayed
+    ensures { result ≡ ended_by made }
+{
+    match made {
         Ok(closed) => Relayed::Closed(closed),
         Err(RelayError::Fault) => Relayed::Fault,
         Err(RelayError::OutOfMemory) => Relayed::OutOfMemory,
@@ -194,6 +230,7 @@ pub fn make_rounds<R: Wait + Clock, I: Sockets, F: Far<I>, P: Ledger, D: Ledger>
     requires counter { relay.old.driver.given + 129 * rounds ≤ MOST_GIVEN }
     ensures made { IfOk result (λ closed. MakesRounds I.view I.tells I.memory relay.old rounds closed relay.new) }
     ensures stops { IfErr result (StopsFor (I.view relay.old.driver.handling.io) (I.view relay.new.driver.handling.io)) }
+    ensures order { (I.view relay.old.driver.handling.io).faults ≤ (I.view relay.new.driver.handling.io).faults }
 {
     let mut closed: u64 = 0;
     for _made in 0..rounds {

@@ -2,6 +2,7 @@
 use Rattle.std.proofs.Common.{◌≡◌, ◌∙◌, inl, inr, refl, sym, ap, subst, Bool, ℕ, List, [], ◌∷◌, Option, Some, None, get_or, arith}
 use Rattle.std.specs.Prelude.{codes, decimal}
 use Rattle.event_text.specs.TextWords.{bytes_word}
+use Rattle.ready_driver.specs.Io.{IoView}
 use Rattle.relay_run.specs.declared.plan.Plan.{Plan}
 use Rattle.session_core.specs.declared.command.TheConstants.{MOST_PORT}
 use Rattle.session_core.specs.declared.command.Command.{Command}
@@ -14,7 +15,7 @@ use Rattle.session_core.specs.Command.{IsPortIf, IsRelay, KeepsNothing, ReadsCom
 use Rattle.session_core.specs.Command.{UsesNoNet, relay_words}
 use Rattle.session_core.specs.Complete.{IsDoneOrShort, NoneRose}
 use Rattle.session_core.specs.Ends.{CommandEnds, Reading, StatusFor, Writing}
-use Rattle.session_core.specs.Relays.{RelaysFor}
+use Rattle.session_core.specs.Relays.{CommandOpens, OpensFor, RelaysFor}
 use Rattle.session_core.proofs.Commands.{same-number}
 use Rattle.session_core.proofs.RelayWords.{few-no-relay, not-trace-relay}
 use Rattle.session_core.proofs.TaskWords.{many-no-tasks}
@@ -33,6 +34,21 @@ same-relayed words plan other first second =
     let texts = last-word plan.to other.to plan.port plan.limit plan.rounds other.port other.limit other.rounds
     (sym first.words_are ∙ second.words_are) in
     same-number plan.rounds other.rounds (let small = first.small in omega arith) (let small = second.small in omega arith) texts
+
+-- The one in front of it is how many connections may be open.
+limit-word : (to other : Option ℕ) (port limit rounds more most all : ℕ)
+    → relay_words to port limit rounds ≡ relay_words other more most all → decimal limit ≡ decimal most
+limit-word None None port limit rounds more most all same = ap (λ ws. get_or ws 2 []) same
+limit-word None (Some b) port limit rounds more most all same = absurd cc
+limit-word (Some a) None port limit rounds more most all same = absurd cc
+limit-word (Some a) (Some b) port limit rounds more most all same = ap (λ ws. get_or ws 3 []) same
+
+-- Words have one limit.
+same-limited : (words : List (List ℕ)) (plan other : Plan) → IsRelay words plan → IsRelay words other → plan.limit ≡ other.limit
+same-limited words plan other first second =
+    let texts = limit-word plan.to other.to plan.port plan.limit plan.rounds other.port other.limit other.rounds
+    (sym first.words_are ∙ second.words_are) in
+    same-number plan.limit other.limit (let few = first.few in omega arith) (let few = second.few in omega arith) texts
 
 -- Words that begin with `relay`, and whose other numbers are none of a plan, are no command's.
 pub relay-or-none : (port to limit rounds : List ℕ) (end : ℕ) → ReadsFromOne MOST_PORT to (Some end) →
@@ -91,6 +107,26 @@ relay-ends ts tk words Unframe plan source sink kept status reads relay ends = a
 relay-ends ts tk words Tasks plan source sink kept status reads relay ends = absurd (few-no-relay plan reads (omega arith) relay)
 relay-ends ts tk words (Relay p) plan source sink kept status reads relay ends =
     subst (λ rounds. RelaysFor tk rounds sink status) (same-relayed words p plan reads relay) ends
+
+-- What a command opened where its words are those of a relay.
+pub relay-opens : (tk memory : Bool) (words : List (List ℕ)) (command : Command) (plan : Plan) (sink : Writing) (old new : IoView)
+    (status : Status) → ReadsCommand words (Some command) → IsRelay words plan → CommandOpens tk memory command sink old new status →
+    OpensFor tk memory plan.limit plan.rounds sink old new status
+relay-opens tk memory words (Run c) plan sink old new status reads relay opens =
+    absurd (few-no-relay plan reads.words_are (omega arith) relay)
+relay-opens tk memory words Ready plan sink old new status reads relay opens = absurd (few-no-relay plan reads (omega arith) relay)
+relay-opens tk memory words (Generate s r) plan sink old new status reads relay opens =
+    absurd (few-no-relay plan reads.words_are (omega arith) relay)
+relay-opens tk memory words (Trace s r) plan sink old new status reads relay opens = absurd (not-trace-relay words s r plan reads relay)
+relay-opens tk memory words (Wake s c) plan sink old new status reads relay opens =
+    absurd (few-no-relay plan reads.words_are (omega arith) relay)
+relay-opens tk memory words (Copy c word) plan sink old new status reads relay opens =
+    absurd (few-no-relay plan reads.is_copy.words_are (omega arith) relay)
+relay-opens tk memory words Unframe plan sink old new status reads relay opens = absurd (few-no-relay plan reads (omega arith) relay)
+relay-opens tk memory words Tasks plan sink old new status reads relay opens = absurd (few-no-relay plan reads (omega arith) relay)
+relay-opens tk memory words (Relay p) plan sink old new status reads relay opens =
+    subst (λ limit. OpensFor tk memory limit plan.rounds sink old new status) (same-limited words p plan reads relay)
+    (subst (λ rounds. OpensFor tk memory p.limit rounds sink old new status) (same-relayed words p plan reads relay) opens)
 
 -- A command of a relay reads nothing, and keeps nothing.
 pub relay-nothing : (words : List (List ℕ)) (command : Command) (plan : Plan) → ReadsCommand words (Some command) →

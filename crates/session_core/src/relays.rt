@@ -3,7 +3,7 @@ ghost use Rattle.std.specs.Prelude.{◌≡◌, ◌≤◌, ◌<◌};
 ghost use Rattle.ring_core.specs.Counts.{Rose};
 ghost use Rattle.relay_run.specs.declared.plan.TheConstants.{MOST_LIMIT, MOST_RELAY_ROUNDS};
 ghost use Rattle.session_core.specs.Ends.{writing};
-ghost use Rattle.session_core.specs.Relays.{RelaysFor};
+ghost use Rattle.session_core.specs.Relays.{OpensFor, RelaysFor};
 
 use crate::output::write_number;
 use crate::top::Status;
@@ -27,6 +27,8 @@ pub(crate) fn run_relay<R: Wait + Clock, K: ByteSink, N: Sockets>(
     ensures relays { RelaysFor K.tells plan.rounds (writing K.taken K.faults K.is_flushed sink.old sink.new) result }
     ensures net_fault { result ≡ Status.NetFault → Rose (N.view net.old).faults (N.view net.new).faults }
     ensures listens { result ≡ Status.Done → (N.view net.old).made < (N.view net.new).made }
+    ensures opens { OpensFor K.tells N.memory plan.limit plan.rounds (writing K.taken K.faults K.is_flushed sink.old sink.new)
+        (N.view net.old) (N.view net.new) result }
 {
     match relay_all(rt, alloc, plan, net) {
         Relayed::Closed(count) => match write_number(b"closed ", count, sink) {

@@ -17,7 +17,7 @@ ghost use Rattle.session_core.specs.Ends.{CommandEnds, CommandRefused, CopiesFor
 ghost use Rattle.session_core.specs.Ends.{SinkEnds, StatusFor, UnframesFor, reading, writing};
 ghost use Rattle.session_core.specs.Complete.{IsDoneOrShort, IsReadOrShort, NoneRose, TakesInput};
 ghost use Rattle.session_core.specs.Stops.{CommandStops, EventsStop, ResultStops, RunStops};
-ghost use Rattle.session_core.specs.Relays.{RelaysFor};
+ghost use Rattle.session_core.specs.Relays.{CommandOpens, OpensFor, RelaysFor};
 ghost use Rattle.session_core.specs.Tasking.{TasksFor, TasksStop};
 ghost use Rattle.session_core.specs.Trace.{TracesFor};
 ghost use Rattle.relay_run.specs.declared.plan.Plan.{Plan as Planned};
@@ -220,6 +220,10 @@ pub fn top<R: Threads + Wait + Clock + Sync, S: ByteSource, K: ByteSink, N: Sock
     // A run of them that is done has listened: the object's count of handles rose.
     ensures listens { (plan : Planned) → IsRelay (map string_bytes words.now) plan → result ≡ Status.Done →
         (N.view net.old).made < (N.view net.new).made }
+    // Over a fresh world in memory no connection was closed, and each round opened one, up to as many as may be open.
+    ensures opens { (plan : Planned) → IsRelay (map string_bytes words.now) plan →
+        OpensFor K.tells N.memory plan.limit plan.rounds (writing K.taken K.faults K.is_flushed sink.old sink.new) (N.view net.old)
+        (N.view net.new) result }
     ensures unused_net { ((plan : Planned) → IsRelay (map string_bytes words.now) plan → ⊥) → net.new ≡ net.old }
     ensures memory { (IsUnframe (map string_bytes words.now) → ⊥) → (IsTasks (map string_bytes words.now) → ⊥) →
         result ≡ Status.OutOfMemory →
@@ -272,6 +276,8 @@ fn run_command<R: Threads + Wait + Clock + Sync, S: ByteSource, K: ByteSink, N: 
     ensures net_fault { result ≡ Status.NetFault → Rose (N.view net.old).faults (N.view net.new).faults }
     ensures unused { UsesNoNet command.entry → net.new ≡ net.old }
     ensures listens { (UsesNoNet command.entry → ⊥) → result ≡ Status.Done → (N.view net.old).made < (N.view net.new).made }
+    ensures opens { CommandOpens K.tells N.memory command.entry (writing K.taken K.faults K.is_flushed sink.old sink.new) (N.view net.old)
+        (N.view net.new) result }
 {
     match command {
         Command::Run(capacity) => run_lines(alloc, capacity, source, sink, kept, stop),

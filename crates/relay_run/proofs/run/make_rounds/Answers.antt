@@ -1,6 +1,7 @@
 use Rattle.std.proofs.Common.{◌≡◌, ◌+◌, ◌-◌, ◌∙◌, suc, subst, ap, arith}
 use Rattle.std.specs.Prelude.{◌^◌, min}
-use Rattle.relay_run.specs.Relaying.{MakesRounds}
+use Rattle.relay_run.specs.Relaying.{MakesRounds, made_of}
+use Rattle.relay_run.proofs.Rounds.{opens_made}
 use Rattle.relay_run.proofs.run.make_rounds.Goals as goal
 
 pub loop-made-preserved : goal.loop-made-preserved
@@ -22,7 +23,13 @@ loop-made-preserved g c =
               serving = serving;
               names = c.in-Ok.ensures.names;
               accepts = c.in-Ok.ensures.accepts;
+              keyed = c.round.ensures.keyed;
+              grows = opens_made round.opened (made_of g.I.NonBlock.view c.loop-made.relay)
+                  (made_of g.I.NonBlock.view c.round.new.self) c.in-Ok.ensures.grows c.round.ensures.order c.in-Ok.ensures.one;
+              closes = c.in-Ok.ensures.closes;
               counted = counted;
+              listener = c.round.ensures.same.0;
+              limit = c.round.ensures.same.1;
             },
           );
       given = let before = c.loop-made.invariant.given in let more = c.round.ensures.given in omega arith;

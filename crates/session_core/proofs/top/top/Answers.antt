@@ -3,7 +3,7 @@ use Rattle.session_core.proofs.Commands.{reads-nothing, generate-nothing, trace-
 use Rattle.session_core.proofs.Endings.{run-ends, ready-ends, sum-ends, trace-ends, wake-ends, copy-ends, line-refused, written-late}
 use Rattle.session_core.proofs.Completing.{command-complete, input-taken}
 use Rattle.session_core.proofs.Framing.{frame-refused, ran-short-of, unframe-complete, unframe-ends}
-use Rattle.session_core.proofs.Relaying.{other-unused, relay-complete, relay-ends, relay-nothing, relay-uses}
+use Rattle.session_core.proofs.Relaying.{other-unused, relay-complete, relay-ends, relay-nothing, relay-opens, relay-uses}
 use Rattle.session_core.proofs.Stopping.{run-stops, ready-stops, tasks-stops, none-stops}
 use Rattle.session_core.proofs.Tasking.{tasks-ends}
 use Rattle.session_core.proofs.top.top.Goals as goal
@@ -152,3 +152,7 @@ returns-in-Some-clause-listens g c = λ plan relay done.
 
 pub returns-in-None-clause-listens : goal.returns-in-None-clause-listens
 returns-in-None-clause-listens g c = λ plan relay done. absurd (c.in-None.ensures.no_relay plan relay)
+
+pub returns-in-Some-clause-opens : goal.returns-in-Some-clause-opens
+returns-in-Some-clause-opens g c = λ plan relay.
+    relay-opens g.K.ByteSink.tells g.N.NonBlock.memory _ c.in-Some.command plan _ _ _ _ c.in-Some.ensures relay c.run_command.ensures.opens
