@@ -84,21 +84,21 @@ opened_listens view tells memory io old new h shows same stands opened =
           let second = rest.0.faults in
           let start = ap (λ i. (view i).faults) same in omega (arith, first, second, start);
       made = rest.1 ∙ given.made ∙ ap (λ i. suc ((view i).made)) same;
-      fresh = λ is_fresh.
-          let is = is_fresh.is_memory in
-          let at : h ≡ 0 = given.number ∙ ap (λ i. (view i).made) same ∙ is_fresh.made in
+      listening = λ is_empty.
+          let is = is_empty.is_memory in
+          let at : h ≡ 0 = given.number ∙ ap (λ i. (view i).made) same ∙ is_empty.made in
           single_listens view new h at
           (rest.2 (shows is) ∙ given.world (shows is) ∙ ap (λ i. (view i).world ++ fresh Listener ∷ []) same
-          ∙ ap (λ w. w ++ fresh Listener ∷ []) is_fresh.world)
+          ∙ ap (λ w. w ++ fresh Listener ∷ []) is_empty.world)
           (rest.3 is ∙ ap (λ ks. with_key ks h (Some h)) (given.keys is ∙ ap (λ i. (view i).keys ++ None ∷ []) same
-          ∙ ap (λ ks. ks ++ None ∷ []) is_fresh.keys) ∙ ap (λ n. with_key (None ∷ []) n (Some n)) at)
-          (rest.1 ∙ given.made ∙ ap (λ i. suc ((view i).made)) same ∙ ap suc is_fresh.made)
+          ∙ ap (λ ks. ks ++ None ∷ []) is_empty.keys) ∙ ap (λ n. with_key (None ∷ []) n (Some n)) at)
+          (rest.1 ∙ given.made ∙ ap (λ i. suc ((view i).made)) same ∙ ap suc is_empty.made)
           (λ k other known.
           let before : is_known old.table k ≡ true =
           sym (ap is_some (ap (λ m. map.get m k) (opened.user.table ∙ ap (λ m. map.insert m h by_user) opened.holders)
           ∙ put-other old.table.holders h by_user k other)) ∙ known in
-          no_keys k (Some k) (sym (ap (λ ks. slice_get ks k) (ap (λ i. (view i).keys) same ∙ is_fresh.keys))
-          ∙ stands is_fresh.world is_fresh.keys k before));
+          no_keys k (Some k) (sym (ap (λ ks. slice_get ks k) (ap (λ i. (view i).keys) same ∙ is_empty.keys))
+          ∙ stands is_empty.world is_empty.keys k before));
     }
 
 -- It couldn't: a fault is the object's, since a number was left for the handle.

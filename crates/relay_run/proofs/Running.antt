@@ -36,9 +36,9 @@ rounds_run view tells memory before end driver listener limit rounds start now (
       order = omega (arith, first_order, order, end_order);
       listens = let all : before.made < end.made = omega (arith, first_made, more, made) in all;
       none = λ no_round. rounds_none view tells memory start now rounds closed makes no_round;
-      opens = λ fresh.
-          let behind = rounds_behind view tells memory start now rounds closed (shows fresh.is_memory) fresh.is_memory
-          (ap (λ r. r.open_ones) is) (first.fresh fresh) makes in
+      opens = λ empty.
+          let behind = rounds_behind view tells memory start now rounds closed (shows empty.is_memory) empty.is_memory
+          (ap (λ r. r.open_ones) is) (first.listening empty) makes in
           let opened = behind.opened in
           let at = ap (λ r. r.limit) is in
           (behind.none, omega (arith, opened, first_made, made, at));
@@ -52,7 +52,7 @@ rounds_run view tells memory before end driver listener limit rounds start now (
       order = omega (arith, first, order, end_order);
       listens = tt;
       none = tt;
-      opens = λ fresh. tt;
+      opens = λ empty. tt;
     }
 rounds_run view tells memory before end driver listener limit rounds start now (Err relay_error.OutOfMemory) shows is has makes stops order
     later made =

@@ -59,7 +59,7 @@ ClosesNone rounds Fault = Unit {0}
 ClosesNone rounds OutOfMemory = Unit {0}
 
 -- An object is a world in memory that has made no handle.
-pub record IsFresh (memory : Bool) (io : IoView) : Type 0 where
+pub record IsEmptyWorld (memory : Bool) (io : IoView) : Type 0 where
   pub is_memory : IsTrue memory
   pub world : io.world ≡ []
   pub keys : io.keys ≡ []
@@ -72,14 +72,14 @@ OpensEach Fault limit rounds before now = Unit {0}
 OpensEach OutOfMemory limit rounds before now = Unit {0}
 
 -- What a run over an object comes to, by the object before it and behind it: a fault comes only where its count of faults rose, which never
--- falls; where all rounds were made it has listened, and without a round no connection was closed; and over a fresh world in memory each
+-- falls; where all rounds were made it has listened, and without a round no connection was closed; and over an empty world in memory each
 -- round opens a connection, beside the handle that listens.
 pub record RunsOver (memory : Bool) (limit rounds : ℕ) (old new : IoView) (relayed : Relayed) : Type 0 where
   pub fault : relayed ≡ Fault → Rose old.faults new.faults
   pub order : old.faults ≤ new.faults
   pub listens : ListensFor relayed old.made new.made
   pub none : ClosesNone rounds relayed
-  pub opens : IsFresh memory old → OpensEach relayed limit rounds (old.made + 1) new.made
+  pub opens : IsEmptyWorld memory old → OpensEach relayed limit rounds (old.made + 1) new.made
 
 -- A handle of a world in memory listens, each handle that is held is registered, and each other handle is a stream whose end isn't marked.
 pub record IsListening {I : Type 0} (view : I → IoView) (all : Handling I) (listener : ℕ) : Type 0 where
@@ -87,11 +87,12 @@ pub record IsListening {I : Type 0} (view : I → IoView) (all : Handling I) (li
   pub keyed : HasKeys view all
   pub going : AreGoingBut listener (view all.io).world
 
--- An object has listened since it was this one: its count of faults hasn't fallen, and it made a handle, which listens if it was fresh.
+-- An object has listened since it was this one: its count of faults hasn't fallen, and it made a handle. If it was an empty world, that one
+-- listens.
 pub record HasListened {I : Type 0} (view : I → IoView) (memory : Bool) (before : IoView) (all : Handling I) (listener : ℕ) : Type 0 where
   pub order : before.faults ≤ (view all.io).faults
   pub made : (view all.io).made ≡ suc before.made
-  pub fresh : IsFresh memory before → IsListening view all listener
+  pub listening : IsEmptyWorld memory before → IsListening view all listener
 
 -- How a run ended whose object doesn't listen.
 abbrev pub refused_by : NonBlockError → Relayed

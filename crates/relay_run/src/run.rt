@@ -6,7 +6,7 @@ ghost use Rattle.ready_driver.specs.Io.{IoView};
 ghost use Rattle.ready_driver.specs.Registry.{is_old, is_users};
 ghost use Rattle.relay_net.specs.Keeping.{StopsFor};
 ghost use Rattle.relay_run.specs.declared.plan.TheConstants.{MOST_LIMIT, MOST_RELAY_ROUNDS};
-ghost use Rattle.relay_run.specs.Relaying.{ClosesNone, HasListened, IsFresh, ListensFor, MakesRounds, OpensEach, RunsOver};
+ghost use Rattle.relay_run.specs.Relaying.{ClosesNone, HasListened, IsEmptyWorld, ListensFor, MakesRounds, OpensEach, RunsOver};
 ghost use Rattle.relay_run.specs.Relaying.{ended_by, refused_by};
 
 use crate::lent::{Lent, NetPlaces, give_back, lend};
@@ -58,7 +58,7 @@ pub fn relay_all<R: Wait + Clock, N: Sockets>(
     ensures order { (N.view net.old).faults ≤ (N.view net.new).faults }
     ensures listens { ListensFor result (N.view net.old).made (N.view net.new).made }
     ensures none { ClosesNone plan.rounds result }
-    ensures opens { IsFresh N.memory (N.view net.old) →
+    ensures opens { IsEmptyWorld N.memory (N.view net.old) →
         OpensEach result plan.limit plan.rounds ((N.view net.old).made + 1) (N.view net.new).made }
 {
     let over = relay_at::<R, N, Brand>(rt, alloc, plan, net);

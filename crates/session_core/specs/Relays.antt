@@ -3,7 +3,7 @@ use Rattle.std.specs.Prelude.{ℕ, ◌≡◌, ◌≤◌, ◌+◌, Bool, IsTrue, 
 use Rattle.ring_core.specs.Counts.{Rose}
 use Rattle.rent_io.specs.Call.{Writing}
 use Rattle.ready_driver.specs.Io.{IoView}
-use Rattle.relay_run.specs.Relaying.{IsFresh}
+use Rattle.relay_run.specs.Relaying.{IsEmptyWorld}
 use Rattle.session_core.specs.declared.command.Command.{Command}
 use Rattle.session_core.specs.declared.command.Command.TheVariants.{Relay}
 use Rattle.session_core.specs.declared.top.Status.{Status}
@@ -37,18 +37,18 @@ RelaysFor tells rounds sink OutOfMemory = Untouched tells sink.taken sink.now si
 RelaysFor tells rounds sink NetFault = Untouched tells sink.taken sink.now sink.faults sink.later
 RelaysFor tells rounds sink _ = ⊥
 
--- Over a fresh world in memory they wrote that none was closed, and the object made a handle that listens, and one for each round, up to so
--- many.
+-- Over an empty world in memory they wrote that none was closed, and the object made a handle that listens, and one for each round, up to
+-- so many.
 pub record WroteOpened (tells : Bool) (limit rounds : ℕ) (sink : Writing) (before now : ℕ) : Type 0 where
   pub written : IsTrue tells → sink.now ≡ sink.taken ++ closed_text 0
   pub opened : before + 1 + min limit rounds ≤ now
 
--- So it is where they are done.
+-- So it is where they are done. Of their other statuses nothing is said.
 abbrev pub OpensFor : Bool → Bool → ℕ → ℕ → Writing → IoView → IoView → Status → Type 0
-OpensFor tells memory limit rounds sink old new Done = IsFresh memory old → WroteOpened tells limit rounds sink old.made new.made
+OpensFor tells memory limit rounds sink old new Done = IsEmptyWorld memory old → WroteOpened tells limit rounds sink old.made new.made
 OpensFor tells memory limit rounds sink old new _ = Unit {0}
 
--- What a command opened: of each but these nothing is said.
+-- The same by the command. Of each other command nothing is said.
 abbrev pub CommandOpens : Bool → Bool → Command → Writing → IoView → IoView → Status → Type 0
 CommandOpens tells memory (Relay plan) sink old new status = OpensFor tells memory plan.limit plan.rounds sink old new status
 CommandOpens tells memory _ sink old new status = Unit {0}

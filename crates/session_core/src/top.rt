@@ -220,7 +220,7 @@ pub fn top<R: Threads + Wait + Clock + Sync, S: ByteSource, K: ByteSink, N: Sock
     // A run of them that is done has listened: the object's count of handles rose.
     ensures listens { (plan : Planned) → IsRelay (map string_bytes words.now) plan → result ≡ Status.Done →
         (N.view net.old).made < (N.view net.new).made }
-    // Over a fresh world in memory no connection was closed, and each round opened one, up to as many as may be open.
+    // Over an empty world in memory no connection was closed, and each round opened one, up to as many as may be open.
     ensures opens { (plan : Planned) → IsRelay (map string_bytes words.now) plan →
         OpensFor K.tells N.memory plan.limit plan.rounds (writing K.taken K.faults K.is_flushed sink.old sink.new) (N.view net.old)
         (N.view net.new) result }
