@@ -61,7 +61,7 @@ same_input : (bytes : List ℕ) (handle : HandleState) → handle.kind ≡ Strea
 same_input bytes handle kind = ap (λ k. (sent_to_kind k bytes handle).input) kind
 
 -- It leaves the kind.
-same_kind : (kind : HandleKind) (bytes : List ℕ) (handle : HandleState) → (sent_to_kind kind bytes handle).kind ≡ handle.kind
+pub same_kind : (kind : HandleKind) (bytes : List ℕ) (handle : HandleState) → (sent_to_kind kind bytes handle).kind ≡ handle.kind
 same_kind Pipe bytes handle = refl
 same_kind Stream bytes handle = refl
 same_kind Datagram bytes handle = refl

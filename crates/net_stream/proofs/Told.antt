@@ -107,7 +107,7 @@ input_rest (suc k) None = refl
 input_rest k (Some handle) = refl
 
 -- The same of a handle of a world.
-input_left : (k h : ℕ) (world : List HandleState) → input_at (amended world h (without_front k)) h ≡ drop k (input_at world h)
+pub input_left : (k h : ℕ) (world : List HandleState) → input_at (amended world h (without_front k)) h ≡ drop k (input_at world h)
 input_left k h world =
     ap (λ found. unwrap_or (option_map (λ handle. handle.input) found) []) (get-amended (without_front k) world h)
     ∙ input_rest k (slice_get world h)

@@ -68,7 +68,7 @@ output_joined : (bytes : List ℕ) (handle : HandleState) → handle.kind ≡ St
 output_joined bytes handle kind = ap (λ k. (sent_to_kind k bytes handle).output) kind
 
 -- The same of a handle of a world.
-output_after : (bytes : List ℕ) (h : ℕ) (world : List HandleState) → IsStream world h
+pub output_after : (bytes : List ℕ) (h : ℕ) (world : List HandleState) → IsStream world h
     → output_at (amended world h (with_sent bytes)) h ≡ output_at world h ++ bytes
 output_after bytes h world stream =
     ap (λ found. unwrap_or (option_map (λ handle. handle.output) found) [])

@@ -44,7 +44,7 @@ bits_without a b k a_set b_set = elim (cases_lt k 8) [
 ]
 
 -- A number is below the power of two of it.
-below-power : (n : ℕ) → n < 2 ^ n
+pub below-power : (n : ℕ) → n < 2 ^ n
 below-power zero = omega arith
 below-power (suc n) = omega (arith, below-power n, pow-suc 2 n)
 

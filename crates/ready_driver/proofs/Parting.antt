@@ -25,7 +25,7 @@ use Rattle.ready_driver.specs.Reports.{with_key}
 use Rattle.ready_driver.proofs.Registering.{keys-kept}
 
 -- As many handles have a key, or none, as before.
-length-without : (handles : List ℕ) (keys : List (Option ℕ)) → length (without_keys keys handles) ≡ length keys
+pub length-without : (handles : List ℕ) (keys : List (Option ℕ)) → length (without_keys keys handles) ≡ length keys
 length-without [] keys = refl
 length-without (h ∷ handles) keys = length-without handles (with_key keys h None) ∙ length-amended (λ old. None) keys h
 

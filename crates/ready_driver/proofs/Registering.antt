@@ -1,14 +1,13 @@
 -- What a table of holders and records keep true: just the handles that somebody holds have records, through each change of both.
 use Rattle.std.proofs.Common.{◌≡◌, ◌∙◌, inl, inr, ℕ, ◌<◌, Bool, true, false, Option, Some, None, option_map, refl, sym}
-use Rattle.std.proofs.Common.{ap, subst, arith}
+use Rattle.std.proofs.Common.{ap, subst}
 use Rattle.std.specs.Prelude.{is_some, unwrap_or, Result, Ok, Err, IfSome}
 use Rattle.std.specs.Ordering.{nat_cmp}
 use Rattle.std.specs.FinMap.{FinMap, get, empty, insert, remove, get-empty}
 use Rattle.handle_core.specs.declared.table.Holders.{Holders}
-use Rattle.handle_core.specs.Table.{Table, holders_at, with_holders, without_handle, by_operation, by_user, handed}
+use Rattle.handle_core.specs.Table.{Table, with_holders, without_handle, by_user}
 use Rattle.ring_core.proofs.Numbers.{same-or-not}
-use Rattle.driver_core.proofs.Maps.{put-same, put-other, put-twice, gone-same, gone-other, put-self}
-use Rattle.driver_core.proofs.Holds.{with-same}
+use Rattle.driver_core.proofs.Maps.{put-same, put-other, gone-same, gone-other, put-self}
 use Rattle.rent_buf.specs.declared.fault.OutOfMemory.{OutOfMemory}
 use Rattle.driver_core.specs.declared.op.Op.{Op}
 use Rattle.driver_core.specs.declared.op.PollOp.{PollOp}

@@ -24,11 +24,11 @@ use Rattle.ready_driver.specs.Turns.{with_report, reported, reported_each, bits_
 use Rattle.ready_driver.proofs.Recorded.{changed-other, io-changed, there-changed}
 
 -- The least of a number and of the greater of two.
-spread : (x y z : ℕ) → min (max x y) z ≡ max (min x z) (min y z)
+pub spread : (x y z : ℕ) → min (max x y) z ≡ max (min x z) (min y z)
 spread x y z = omega arith
 
 -- What a union shares with a set each side shares with it.
-shared_union : (a b m : ℕ) → bit_and (bit_or a b) m ≡ bit_or (bit_and a m) (bit_and b m)
+pub shared_union : (a b m : ℕ) → bit_and (bit_or a b) m ≡ bit_or (bit_and a m) (bit_and b m)
 shared_union a b m = same_from_bits _ _ (λ k.
     bit_at_and (bit_or a b) m k ∙ ap (λ n. min n (bit_at m k)) (bit_at_or a b k) ∙ spread (bit_at a k) (bit_at b k) (bit_at m k)
     ∙ sym (bit_at_or (bit_and a m) (bit_and b m) k ∙ ap (λ n. max n (bit_at (bit_and b m) k)) (bit_at_and a m k)

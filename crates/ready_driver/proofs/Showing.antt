@@ -35,7 +35,7 @@ abbrev bits_in : Option Record → ℕ
 bits_in x = (unwrap_or (option_map (λ r. r.io) x) quiet).ready
 
 -- The records of handles are registered: their bits stay.
-bits-registered : (handles : List ℕ) (records : Kept) (h : ℕ) →
+pub bits-registered : (handles : List ℕ) (records : Kept) (h : ℕ) →
     (io_at (registered_each records handles) h).ready ≡ (io_at records h).ready
 bits-registered [] records h = refl
 bits-registered (n ∷ handles) records h =
@@ -59,7 +59,7 @@ left-record (h ∷ handles) table records k may known =
     by false apart same = same records
 
 -- An operation waits no longer: the bits stay.
-bits-unwaiting : (records : Kept) (number : ℕ) (awaited : Option (ℕ × Direction)) (h : ℕ) →
+pub bits-unwaiting : (records : Kept) (number : ℕ) (awaited : Option (ℕ × Direction)) (h : ℕ) →
     (io_at (unwaiting records number awaited) h).ready ≡ (io_at records h).ready
 bits-unwaiting records number None h = refl
 bits-unwaiting records number (Some (n, dir)) h = bits-kept records n (with_io (without_waiter number)) (λ one. refl) h

@@ -117,8 +117,8 @@ abbrev pub without_waiter : ℕ → Scheduled → Scheduled
 without_waiter serial io = record io { waiting = forgotten io.waiting serial }
 
 -- What a poll by the bits of a handle leaves of these and of what waits, by whether a bit meets the direction of its operation's entry.
--- Where none does the operation waits. Else its call is made: one that would block clears the bits of the direction, and the operation waits; one
--- that ended leaves the bits, and the operation waits no longer. Where memory ran out nothing changes.
+-- Where none does the operation waits. Else its call is made: one that would block clears the bits of the direction, and the operation
+-- waits; one that ended leaves the bits, and the operation waits no longer. Where memory ran out nothing changes.
 abbrev pub LeavesIo : {B : Type 0} → Bool → Scheduled → Waiter → Scheduled → Result (PollOp B) (OutOfMemory × Op) → Type 0
 LeavesIo false old entry new (Ok (Pending back)) = new ≡ with_waiter entry old
 LeavesIo false old entry new (Ok (Ready done)) = ⊥

@@ -44,8 +44,8 @@ pub record MakesNone {B I : Type 0} (slot new : Option (Slot B)) (before after :
   pub slot_is : new ≡ slot
 
 -- What a poll of the operation in a slot called, by whether it may call: it may where its operation waits for nothing, or a bit of its
--- handle meets its direction. One that may not is pending, and made no call. One that may made just one call, and its answer is that of the call;
--- but one that was completed before is ready without a call. Where memory ran out no call was made, or the call itself answered that.
+-- handle meets its direction. One that may not is pending, and made no call. One that may made just one call, and its answer is that of the
+-- call; but one that was completed before is ready without a call. Where memory ran out no call was made, or the call itself answered that.
 abbrev pub CallsOnce : {B I : Type 0} → Bool → (B → Buffer) → Called I → Option (Slot B) → I → Option (Slot B) → I →
     Result (PollOp B) (NoMemory × Op) → Type 0
 CallsOnce false buffer called slot before new after (Ok (Pending back)) = MakesNone slot new before after

@@ -129,8 +129,8 @@ impl<I: NonBlock, B: IoBufMut + Drop> LegacyDriver<I, B> {
         Ok(self.into_io())
     }
 
-    /// Ends the driver as a drop of it does, and returns its object: operations that have a slot are gone, with what they hold, and no handle
-    /// is closed. It takes no memory. (not in monoio)
+    /// Ends the driver as a drop of it does, and returns its object: operations that have a slot are gone, with what they hold, and no
+    /// handle is closed. It takes no memory. (not in monoio)
     pub fn into_io(self) -> I
         ensures { result ≡ self.handling.io }
     {

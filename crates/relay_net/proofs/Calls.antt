@@ -28,6 +28,7 @@ use Rattle.ready_driver.specs.Io.{CallsFor, IoView, IsLater}
 use Rattle.ready_driver.specs.LegacyPolls.{HandsOver}
 use Rattle.ready_driver.specs.LegacyState.{LegacyState, ops_in}
 use Rattle.ready_driver.specs.Registry.{Handling, LetsGo, is_users}
+use Rattle.ready_driver.proofs.Still.{later-then}
 use Rattle.op_driver.specs.Legacy.{LegacySubmits}
 use Rattle.relay_net.specs.Flow.{IfAsked, IsPending}
 use Rattle.relay_net.specs.Keeping.{KeepsUsers, Stays}
@@ -38,16 +39,9 @@ Lawful {I} view tells memory called = (old : I) (request : Request Buffer Parts)
     (answer : CallAnswer)
     → called old request new now answer → CallsFor tells memory (view old) request (view new) now answer
 
--- No count fell.
-pub later_same : (view : IoView) → IsLater view view
-later_same view = record { faults = omega arith; blocks = omega arith; fails = omega arith }
-
+-- What is later than what is later is so itself, by a name that a tactic can cite.
 pub later_then : (old mid new : IoView) → IsLater old mid → IsLater mid new → IsLater old new
-later_then old mid new first second = record {
-  faults = omega (arith, first.faults, second.faults);
-  blocks = omega (arith, first.blocks, second.blocks);
-  fails = omega (arith, first.fails, second.fails);
-}
+later_then = later-then
 
 -- The user holds what it held, where the holders are the same.
 pub same_users : (old new : Table) → new.holders ≡ old.holders → KeepsUsers old new

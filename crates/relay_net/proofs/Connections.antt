@@ -19,6 +19,7 @@ use Rattle.driver_core.specs.Slot.{serial_of}
 use Rattle.ready_driver.specs.Io.{IoView, IsLater}
 use Rattle.ready_driver.specs.LegacyState.{LegacyState, SameOps, holds_all, ops_in}
 use Rattle.ready_driver.specs.Registry.{LetsGo, is_users, unheld_if}
+use Rattle.ready_driver.proofs.Still.{later-then, later-same}
 use Rattle.net_stream.specs.Told.{IsSentTo, IsStream, output_at}
 use Rattle.net_stream.proofs.Handles.{sent_others, sent_stream, sent_waiting, taken_others, taken_sent, taken_stream}
 use Rattle.relay_net.specs.Connection.{FitsBack, FitsConnection, FollowsAs, IsOutside, KeepsElsewhere, KeepsLines}
@@ -39,7 +40,7 @@ use Rattle.relay_net.specs.declared.flow.Stage.TheVariants as stage
 use Rattle.relay_net.specs.declared.round.RelayError.TheVariants as why
 use Rattle.relay_net.proofs.Going.{moves_going, moves_listens}
 use Rattle.relay_net.proofs.Marks.{follows_marks, moves_ended, streams_then}
-use Rattle.relay_net.proofs.Calls.{later_same, later_then, pending_kept, plain_in, released_users, users_then}
+use Rattle.relay_net.proofs.Calls.{pending_kept, plain_in, released_users, users_then}
 
 -- A handle that the user holds may be named.
 pub users_held : (table : Table) (h : ℕ) → is_users table h ≡ true → IsTrue (holds_all table (h ∷ []))
@@ -265,7 +266,7 @@ module _ {I : Type 0} (view : I → IoView) (tells : Bool) where
     far = refl;
     fits = fits;
     leaves = record {
-      later = later_same (view driver.handling.io);
+      later = later-same (view driver.handling.io);
       users = λ h held. held;
       ops = λ op held asked. refl;
       elsewhere = λ t h first second. (refl, refl);
@@ -281,7 +282,7 @@ module _ {I : Type 0} (view : I → IoView) (tells : Bool) where
   pub leaves_then : (old mid new : LegacyState I Buf) (near far : ℕ) → LeavesConnection view tells old near far mid
       → LeavesConnection view tells mid near far new → LeavesConnection view tells old near far new
   leaves_then old mid new near far first second = record {
-    later = later_then (view old.handling.io) (view mid.handling.io) (view new.handling.io) first.later second.later;
+    later = later-then (view old.handling.io) (view mid.handling.io) (view new.handling.io) first.later second.later;
     users = users_then old.handling.table mid.handling.table new.handling.table first.users second.users;
     ops = ops_then (ops_in old) (ops_in mid) (ops_in new) (IsOutside near far) first.ops second.ops;
     elsewhere = λ t h a b. (
@@ -407,7 +408,7 @@ module _ {I : Type 0} (view : I → IoView) (tells : Bool) where
   pub ends_then : (old mid new : LegacyState I Buf) (near far : ℕ) → EndsConnection view tells old near far mid
       → EndsConnection view tells mid near far new → EndsConnection view tells old near far new
   ends_then old mid new near far first second = record {
-    later = later_then (view old.handling.io) (view mid.handling.io) (view new.handling.io) first.later second.later;
+    later = later-then (view old.handling.io) (view mid.handling.io) (view new.handling.io) first.later second.later;
     users = λ h a b held. second.users h a b (first.users h a b held);
     ops = ops_then (ops_in old) (ops_in mid) (ops_in new) (IsOutside near far) first.ops second.ops;
     world = λ t. second.world t ∙ first.world t;
@@ -416,7 +417,7 @@ module _ {I : Type 0} (view : I → IoView) (tells : Bool) where
 
   pub none_ends : (driver : LegacyState I Buf) (near far : ℕ) → EndsConnection view tells driver near far driver
   none_ends driver near far = record {
-    later = later_same (view driver.handling.io);
+    later = later-same (view driver.handling.io);
     users = λ h a b held. held;
     ops = λ op held asked. refl;
     world = λ t. refl;

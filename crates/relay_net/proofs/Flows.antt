@@ -21,6 +21,7 @@ use Rattle.ready_driver.specs.Io.{IoView}
 use Rattle.ready_driver.specs.LegacyCalls.{WhyRefused}
 use Rattle.ready_driver.specs.LegacyState.{LegacyState, ops_in}
 use Rattle.ready_driver.specs.Registry.{Handling}
+use Rattle.ready_driver.proofs.Still.{later-then, later-same}
 use Rattle.net_stream.specs.Told.{IsSentTo, IsStream, IsTaken, output_at}
 use Rattle.net_stream.proofs.Handles.{sent_waiting, taken_sent}
 use Rattle.relay_net.specs.Flow.{asked_at, bytes_sent, empty_buffer, FitsStage, held_in, IfAsked, IsElse, IsLoad, IsPending, IsReceive}
@@ -36,7 +37,7 @@ use Rattle.relay_net.specs.declared.flow.Stage.{Stage}
 use Rattle.relay_net.specs.declared.flow.Stage.TheVariants as stage
 use Rattle.relay_net.specs.declared.round.RelayError.{RelayError}
 use Rattle.relay_net.specs.declared.round.RelayError.TheVariants as why
-use Rattle.relay_net.proofs.Calls.{later_same, later_then, plain_in, users_then}
+use Rattle.relay_net.proofs.Calls.{plain_in, users_then}
 use Rattle.relay_net.proofs.Moves.{Brings, Takes, sent}
 
 -- A request that is known, as any one.
@@ -99,7 +100,7 @@ module _ {I : Type 0} (view : I → IoView) (tells : Bool) where
   pub then_leaves : (old mid new : LegacyState I Buf) (from to : ℕ) → Stays view tells old mid → LeavesFlow view tells mid from to new
       → LeavesFlow view tells old from to new
   then_leaves old mid new from to stays leaves = record {
-    later = later_then (view old.handling.io) (view mid.handling.io) (view new.handling.io) stays.later leaves.later;
+    later = later-then (view old.handling.io) (view mid.handling.io) (view new.handling.io) stays.later leaves.later;
     users = users_then old.handling.table mid.handling.table new.handling.table stays.users leaves.users;
     ops = λ op held asked.
         let same = stays.ops op held (any_asked (asked_at (ops_in old) op) (IsElse from to) asked) in
@@ -202,7 +203,7 @@ pending_count ops op to count pending = by-asked (asked_at ops op) pending.asks
 -- Where nothing is called all stays.
 pub none_stays : {I : Type 0} (view : I → IoView) (tells : Bool) (driver : LegacyState I Buf) → Stays view tells driver driver
 none_stays view tells driver = record {
-  later = later_same (view driver.handling.io);
+  later = later-same (view driver.handling.io);
   users = λ h held. held;
   ops = λ op held asked. refl;
   world = λ t. refl;

@@ -11,8 +11,8 @@ use Rattle.ring_core.proofs.Numbers.{same-or-not}
 use Rattle.driver_core.proofs.Lists.{get-front}
 use Rattle.relay_net.specs.Keeping.{MovesBetween}
 use Rattle.relay_net.specs.Listening.{AreGoingBut, IsListener}
-use Rattle.relay_net.proofs.Marks.{sent_kind}
 use Rattle.relay_net.proofs.Places.{get_pushed}
+use Rattle.net_stream.proofs.Handles.{same_kind}
 
 -- A change of a handle keeps its kind, and the mark of a stream's end.
 record KeepsGoing (change : HandleState → HandleState) : Type 0 where
@@ -25,7 +25,7 @@ taken_going k = record { kind = λ handle. refl; ended = λ handle stream. refl 
 
 sent_going : (bytes : List ℕ) → KeepsGoing (with_sent bytes)
 sent_going bytes = record {
-  kind = λ handle. sent_kind handle.kind bytes handle;
+  kind = λ handle. same_kind handle.kind bytes handle;
   ended = λ handle stream. ap (λ k. (sent_to_kind k bytes handle).ended) stream;
 }
 

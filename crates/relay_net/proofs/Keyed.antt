@@ -49,6 +49,7 @@ use Rattle.ready_driver.specs.Reports.{with_key, with_made_key}
 use Rattle.ready_driver.specs.declared.non_block.NonBlockError.{NonBlockError}
 use Rattle.ready_driver.proofs.Naming.{all-known}
 use Rattle.ready_driver.proofs.Registering.{keys-kept}
+use Rattle.ready_driver.proofs.Parting.{length-without}
 use Rattle.op_driver.specs.Legacy.{LegacyDrops, LegacyPolls, LegacySubmits}
 use Rattle.relay_net.specs.Connection.{far_of, near_of}
 use Rattle.relay_net.specs.Flow.{IfAsked, IsPending, IsReceive, IsSend, empty_buffer}
@@ -189,11 +190,6 @@ left_keyed (h ∷ handles) table keys all =
     (left_keyed handles next (keys_if (is_nobody (left_holders table h)) keys h)
     (settled_keyed table keys h (left_holders table h) (is_nobody (left_holders table h)) (left_held table h) all))
 
--- A key that goes leaves its place.
-without_length : (handles : List ℕ) (keys : List (Option ℕ)) → length (without_keys keys handles) ≡ length keys
-without_length [] keys = refl
-without_length (h ∷ handles) keys = without_length handles (with_key keys h None) ∙ length-amended (λ old. None) keys h
-
 -- A handle that was made has no key yet, and all others have theirs.
 appended_keyed : (table : Table) (keys : List (Option ℕ)) → AreKeyed table keys → AreKeyed table (keys ++ None ∷ [])
 appended_keyed table keys all k known = elim (joined-cases keys None k) [
@@ -252,7 +248,7 @@ module _ {I : Type 0} (view : I → IoView) where
     lets_keys old new table handles lets all memory_is has = record {
       keyed = subst (λ t. AreKeyed t (view new.io).keys) (sym lets.holders)
           (subst (AreKeyed table) (sym (lets.object.keys_are memory_is)) all);
-      sized = ap length (lets.object.keys_are memory_is) ∙ without_length handles (view old.io).keys ∙ has.sized ∙ sym lets.object.made;
+      sized = ap length (lets.object.keys_are memory_is) ∙ length-without handles (view old.io).keys ∙ has.sized ∙ sym lets.object.made;
     }
 
     -- Behind one that gave its user a handle that was made.
@@ -322,7 +318,7 @@ module _ {I : Type 0} (view : I → IoView) where
                 (subst (AreKeyed (without_ops old.handling.table handles)) (sym (drops.handles.object.keys_are memory_is))
                 (left_keyed handles old.handling.table (view old.handling.io).keys has.keyed));
             sized = ap length (drops.handles.object.keys_are memory_is)
-                ∙ without_length (unheld_by old.handling.table handles) (view old.handling.io).keys ∙ has.sized
+                ∙ length-without (unheld_by old.handling.table handles) (view old.handling.io).keys ∙ has.sized
                 ∙ sym drops.handles.object.made;
           };
     }

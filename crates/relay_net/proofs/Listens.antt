@@ -1,5 +1,5 @@
 -- A round accepts what arrives at a listener in memory.
-use Rattle.std.proofs.Common.{ℕ, ◌≡◌, ◌∙◌, ap, sym, refl, subst, Bool, IsTrue, true, false, not, List, [], ◌∷◌, Option, Some, None}
+use Rattle.std.proofs.Common.{ℕ, ◌≡◌, ◌∙◌, ap, sym, refl, subst, Bool, IsTrue, true, false, not, List, [], Option, Some, None}
 use Rattle.std.proofs.Common.{Ok, Err, length}
 use Rattle.std.specs.Prelude.{◌||◌, if◌then◌else◌, IsOk, OnOk, Result, is_some, nat_le, nat_lt, unwrap_or}
 use Rattle.std.specs.FinMap as map
@@ -41,11 +41,11 @@ use Rattle.ready_driver.specs.LegacyPolls.{outcome_for, outcome_if}
 use Rattle.ready_driver.specs.LegacyState.{LegacyState, ops_in}
 use Rattle.ready_driver.specs.LegacyTurns.{LegacyTurns, TurnsBy, turning_in}
 use Rattle.ready_driver.specs.Ready.{mask_of, meets}
-use Rattle.ready_driver.specs.Records.{Kept, io_at, changed, with_registered}
-use Rattle.ready_driver.specs.Registry.{is_known, is_old, is_users, registered_each}
+use Rattle.ready_driver.specs.Records.{Kept, io_at}
+use Rattle.ready_driver.specs.Registry.{is_known, is_old, is_users}
 use Rattle.ready_driver.specs.declared.ready.Direction.{Direction}
 use Rattle.ready_driver.specs.declared.ready.Direction.TheVariants as towards
-use Rattle.ready_driver.proofs.Bearing.{bits-kept}
+use Rattle.ready_driver.proofs.Showing.{bits-registered}
 use Rattle.op_driver.specs.Legacy.{LegacyPolls, LegacySubmits}
 use Rattle.relay_net.specs.Flow.{IfAsked, IsPending}
 use Rattle.relay_net.specs.Keeping.{world_of}
@@ -59,20 +59,13 @@ use Rattle.relay_net.specs.declared.round.RelayError.{RelayError}
 use Rattle.relay_net.proofs.Calls.{Lawful, plain_in}
 use Rattle.relay_net.proofs.Polls.{ready_ends}
 
--- Handles that are registered keep their bits.
-pub bits_registered : (handles : List ℕ) (records : Kept) (h : ℕ)
-    → (io_at (registered_each records handles) h).ready ≡ (io_at records h).ready
-bits_registered [] records h = refl
-bits_registered (n ∷ handles) records h =
-    bits_registered handles (changed records n (with_registered true)) h ∙ bits-kept records n (with_registered true) (λ one. refl) h
-
 -- So does a submission.
 pub submitted_bits : {I : Type 0} (view : I → IoView) (tells memory : Bool) (old new : LegacyState I Buf) (request : Request Buf Parts)
     (op : Op) → LegacySubmits view tells memory old new request (Ok op) → (h : ℕ)
     → (io_at new.handling.records h).ready ≡ (io_at old.handling.records h).ready
 submitted_bits view tells memory old new request op joins h =
     ap (λ x. (io_at x.records h).ready) joins.handling
-    ∙ (ap (λ r. (io_at r h).ready) joins.ready.records ∙ bits_registered (named request) old.handling.records h)
+    ∙ (ap (λ r. (io_at r h).ready) joins.ready.records ∙ bits-registered (named request) old.handling.records h)
 
 -- What is at hand is so behind a call that leaves handles and bits.
 pub at_hand_kept : {I : Type 0} (view : I → IoView) (old new : LegacyState I Buf) (h : ℕ) → world_of view new ≡ world_of view old

@@ -5,8 +5,7 @@ use Rattle.std.specs.Prelude.{◌&&◌, ◌⊎◌, option_map, slice_get, slice_
 use Rattle.std.specs.List.{remove}
 use Rattle.std.proofs.lemmas.Bool.Decides.{nat_tests}
 use Rattle.ring_core.specs.declared.request.Call.TheVariants.{In}
-use Rattle.ring_core.specs.declared.world.HandleKind.{HandleKind}
-use Rattle.ring_core.specs.declared.world.HandleKind.TheVariants.{Stream, Pipe, Datagram, File, Listener}
+use Rattle.ring_core.specs.declared.world.HandleKind.TheVariants.{Stream}
 use Rattle.ring_core.specs.declared.world.HandleState.{HandleState}
 use Rattle.ring_core.specs.Effect.{sent_to_kind, with_sent, without_front}
 use Rattle.ring_core.specs.Lists.{amended, passes}
@@ -16,6 +15,7 @@ use Rattle.ring_core.proofs.Amended.{get-amended, get-amended-other}
 use Rattle.ring_core.proofs.Numbers.{same-or-not}
 use Rattle.driver_core.proofs.Lists.{get-front}
 use Rattle.net_stream.specs.Told.{IsStream}
+use Rattle.net_stream.proofs.Handles.{same_kind}
 use Rattle.relay_net.specs.Connection.{FollowsAs, IsMarked, KeepsStreams, far_of, near_of}
 use Rattle.relay_net.specs.Keeping.{HasEnded, MovesBetween}
 use Rattle.relay_net.specs.Listening.{AreGoingBut, IsListener}
@@ -59,16 +59,9 @@ taken_keeps k = record {
   spent = λ handle stream is. (ap (drop k) is.0 ∙ none_left k, is.1);
 }
 
-pub sent_kind : (kind : HandleKind) (bytes : List ℕ) (handle : HandleState) → (sent_to_kind kind bytes handle).kind ≡ handle.kind
-sent_kind Pipe bytes handle = refl
-sent_kind Stream bytes handle = refl
-sent_kind Datagram bytes handle = refl
-sent_kind File bytes handle = refl
-sent_kind Listener bytes handle = refl
-
 sent_keeps : (bytes : List ℕ) → KeepsEnded (with_sent bytes)
 sent_keeps bytes = record {
-  kind = λ handle. sent_kind handle.kind bytes handle;
+  kind = λ handle. same_kind handle.kind bytes handle;
   spent = λ handle stream is. (
     ap (λ k. (sent_to_kind k bytes handle).input) stream ∙ is.0,
     ap (λ k. (sent_to_kind k bytes handle).ended) stream ∙ is.1,

@@ -1,7 +1,6 @@
 -- What became of the bytes of a receive and of a send that ended.
-use Rattle.std.proofs.Common.{ℕ, zero, suc, ◌≡◌, ◌∙◌, ◌≤◌, ap, sym, refl, subst, arith, Bool, IsTrue, true, false, List, [], ◌++◌, length}
-use Rattle.std.proofs.Common.{take, drop, Option, Some, None, Ok, inr}
-use Rattle.std.specs.Prelude.{option_map, unwrap_or, slice_get}
+use Rattle.std.proofs.Common.{ℕ, ◌≡◌, ◌∙◌, ◌≤◌, ap, sym, refl, subst, arith, Bool, IsTrue, true, false, List, [], ◌++◌, length}
+use Rattle.std.proofs.Common.{take, drop, Some, None, Ok, inr}
 use Rattle.std.proofs.lemmas.List.{append_assoc, length-take, take-append-drop, take-take, take_all}
 use Rattle.rent_buf.specs.Buf.{built, content_of}
 use Rattle.rent_buf.specs.Buffer.{Buffer, shown, stored}
@@ -18,16 +17,14 @@ use Rattle.ring_core.specs.declared.request.Request.TheVariants.{Recv, ReadVec, 
 use Rattle.ring_core.specs.declared.request.Request.TheVariants.{SpliceTo, SpliceFrom, Accept, Open, Connect, Fsync, PollAdd, MkDir, Rename}
 use Rattle.ring_core.specs.declared.request.Request.TheVariants.{Unlink}
 use Rattle.ring_core.specs.declared.request.TheConstants.{MOST_ASKED}
-use Rattle.ring_core.specs.declared.world.HandleKind.TheVariants.{Stream}
 use Rattle.ring_core.specs.declared.world.HandleState.{HandleState}
-use Rattle.ring_core.specs.Effect.{made_by, sent_to_kind, with_sent, without_front}
+use Rattle.ring_core.specs.Effect.{made_by, with_sent, without_front}
 use Rattle.ring_core.specs.Lists.{amended}
 use Rattle.ring_core.specs.Outcome.{may_count}
 use Rattle.ring_core.specs.declared.request.Call.TheVariants.{In}
 use Rattle.ring_core.specs.Request.{held, held_of, plain_request, shape_of}
 use Rattle.ring_core.specs.World.{input_at}
 use Rattle.ring_core.specs.WorldCall.{call_effect}
-use Rattle.ring_core.proofs.Amended.{get-amended}
 use Rattle.driver_core.specs.declared.op.Done.{Done as Ended}
 use Rattle.driver_core.specs.declared.op.Op.{Op}
 use Rattle.driver_core.specs.declared.op.PollOp.TheVariants.{Ready}
@@ -35,15 +32,17 @@ use Rattle.ready_driver.specs.Calling.{Called}
 use Rattle.ready_driver.specs.Io.{EndsFor, FailRose, IoView, IsLater, IsMade, IsMoved, MayEnd}
 use Rattle.ready_driver.specs.LegacyPolls.{HandsOver}
 use Rattle.ready_driver.specs.LegacyState.{LegacyState, ops_in}
+use Rattle.ready_driver.proofs.Still.{later-then}
 use Rattle.op_driver.specs.Legacy.{LegacyPolls}
 use Rattle.net_stream.specs.Told.{IsSentTo, IsStream, IsTaken, output_at}
-use Rattle.net_stream.proofs.Told.{same_outcome}
+use Rattle.net_stream.proofs.Told.{same_outcome, input_left}
+use Rattle.net_stream.proofs.Went.{output_after}
 use Rattle.driver_core.proofs.Rising.{rose-later}
 use Rattle.relay_net.specs.Flow.{IfAsked, IsLoad, IsPending, IsReceive, IsSend, asked_at, empty_buffer}
 use Rattle.relay_net.specs.Keeping.{HasEnded, KeepsUsers, world_of}
 use Rattle.relay_net.specs.Outcomes.{CountsLoad}
 use Rattle.relay_net.specs.declared.flow.TheConstants.{ROOM}
-use Rattle.relay_net.proofs.Calls.{Lawful, later_then}
+use Rattle.relay_net.proofs.Calls.{Lawful}
 use Rattle.relay_net.proofs.Marks.{spent_here, taken_ended}
 use Rattle.relay_net.proofs.Polls.{Ends, ready_ends}
 
@@ -97,19 +96,6 @@ pub record Brought (old new : IoView) (tells : Bool) (from : ℕ) (call : Outcom
   pub request_is : now ≡ Recv from buf
   pub unmade : made_by call ≡ None
   pub brings : Brings old new tells from call (shown buf)
-
--- Once the first bytes of its input left, a handle has the rest.
-input_rest : (k : ℕ) (found : Option HandleState)
-    → unwrap_or (option_map (λ handle. handle.input) (option_map (without_front k) found)) []
-    ≡ drop k (unwrap_or (option_map (λ handle. handle.input) found) [])
-input_rest zero None = refl
-input_rest (suc k) None = refl
-input_rest k (Some handle) = refl
-
-input_left : (k h : ℕ) (world : List HandleState) → input_at (amended world h (without_front k)) h ≡ drop k (input_at world h)
-input_left k h world =
-    ap (λ found. unwrap_or (option_map (λ handle. handle.input) found) []) (get-amended (without_front k) world h)
-    ∙ input_rest k (slice_get world h)
 
 -- Bytes that came are those that left the input.
 filled_moves : (k : ℕ) (old new : List HandleState) (from : ℕ) (bytes : List ℕ) (buf : Buffer) (now : Request Buffer Parts) (call : Outcome)
@@ -215,19 +201,6 @@ Takes old new tells to (From k addr) bytes = IsTrue tells
     → (IsStream old.world to → output_at new.world to ++ drop k bytes ≡ output_at old.world to ++ bytes) × IsSentTo old.world to new.world
 Takes old new tells to (Made h) bytes = ⊥
 Takes old new tells to (Fail error) bytes = Rose old.fails new.fails × (IsTrue tells → new.world ≡ old.world)
-
--- Bytes that are sent to a stream join its output.
-output_joined : (bytes : List ℕ) (handle : HandleState) → handle.kind ≡ Stream
-    → (with_sent bytes handle).output ≡ handle.output ++ bytes
-output_joined bytes handle kind = ap (λ k. (sent_to_kind k bytes handle).output) kind
-
-output_after : (bytes : List ℕ) (h : ℕ) (world : List HandleState) → IsStream world h
-    → output_at (amended world h (with_sent bytes)) h ≡ output_at world h ++ bytes
-output_after bytes h world stream =
-    ap (λ found. unwrap_or (option_map (λ handle. handle.output) found) [])
-    (get-amended (with_sent bytes) world h ∙ ap (option_map (with_sent bytes)) stream.there)
-    ∙ (output_joined bytes stream.handle stream.kind
-    ∙ ap (λ found. unwrap_or (option_map (λ handle. handle.output) found) [] ++ bytes) (sym stream.there))
 
 -- Bytes that were taken of a send joined the output.
 taken_moves : (k : ℕ) (old new : List HandleState) (to : ℕ) (buf : Buffer) (now : Request Buffer Parts) (call : Outcome)
@@ -369,7 +342,7 @@ module _ {I : Type 0} (view : I → IoView) (tells memory : Bool) (files : I →
               brings = brings_later (view old.handling.io) (view ends.mid.io) (view new.handling.io) tells from ends.call
                   (shown brought.buf) s.later s.world brought.brings;
             }),
-        (later_then (view old.handling.io) (view ends.mid.io) (view new.handling.io) made.later s.later, ends.users),
+        (later-then (view old.handling.io) (view ends.mid.io) (view new.handling.io) made.later s.later, ends.users),
       )
 
   -- What a poll that returned a send took.
@@ -399,7 +372,7 @@ module _ {I : Type 0} (view : I → IoView) (tells memory : Bool) (files : I →
                 takes = takes_later (view old.handling.io) (view ends.mid.io) (view new.handling.io) tells to ends.call (shown is.buf)
                     s.later s.world took.takes;
               }),
-          (later_then (view old.handling.io) (view ends.mid.io) (view new.handling.io) made.later s.later, ends.users),
+          (later-then (view old.handling.io) (view ends.mid.io) (view new.handling.io) made.later s.later, ends.users),
         ),
       )
 

@@ -40,6 +40,7 @@ use Rattle.ready_driver.specs.LegacyPolls.{HandsOver, outcome_for, outcome_if}
 use Rattle.ready_driver.specs.LegacyState.{LegacyState, SameOps, ops_in}
 use Rattle.ready_driver.specs.LegacyTurns.{LegacyTurns, TurnsBy, turning_in}
 use Rattle.ready_driver.specs.Registry.{Handling, TriesFor, is_old}
+use Rattle.ready_driver.proofs.Still.{later-then, later-same}
 use Rattle.ring_core.specs.Attempt.{is_readable_at}
 use Rattle.net_stream.specs.Told.{IsStream}
 use Rattle.op_driver.specs.Legacy.{LegacyDrops, LegacyPolls}
@@ -56,7 +57,7 @@ use Rattle.relay_net.specs.declared.opening.Accepted.{Accepted}
 use Rattle.relay_net.specs.declared.round.Lost.{Lost}
 use Rattle.relay_net.specs.declared.round.RelayError.{RelayError}
 use Rattle.relay_net.specs.declared.round.RelayError.TheVariants as why
-use Rattle.relay_net.proofs.Calls.{Lawful, given_users, later_same, later_then, left_users, pending_kept, same_users, users_then}
+use Rattle.relay_net.proofs.Calls.{Lawful, given_users, left_users, pending_kept, same_users, users_then}
 use Rattle.relay_net.proofs.Seeing.{appended_readable}
 use Rattle.relay_net.proofs.Polls.{other_key, pending_pends, pending_waits, polled_others, ready_ends, starved_pends, starved_waits}
 use Rattle.relay_net.proofs.Connections.{asked_as}
@@ -139,8 +140,8 @@ module _ {I : Type 0} (view : I → IoView) (tells memory : Bool) (files : I →
         | inr e ↦ inr (same ∙ e)
       ] in (
         record {
-          later = later_then (view old.handling.io) (view ends.mid.io) (view new.handling.io) ends.made.later
-              (later_then (view ends.mid.io) (view ends.handed.io) (view new.handling.io) handed.0 ends.left_later);
+          later = later-then (view old.handling.io) (view ends.mid.io) (view new.handling.io) ends.made.later
+              (later-then (view ends.mid.io) (view ends.handed.io) (view new.handling.io) handed.0 ends.left_later);
           users = ends.users;
           ops = polled_others view tells memory files called law old new op task (Ok (Ready done)) (IsAccept listener) IsTransfer asked
               pending (accept_apart listener);
@@ -193,7 +194,7 @@ module _ {I : Type 0} (view : I → IoView) (tells memory : Bool) (files : I →
       let asked = subst (λ a. LegacyPolls files built called view tells memory old new op task (Ok a)) is polls in
       let ends = ready_ends view tells memory files called law old new op done task (IsAccept listener) asked pending in
       let handed = handed_still view tells memory ends.mid ends.handed (made_by done.outcome) ends.hands in
-      let later = later_then (view ends.mid.io) (view ends.handed.io) (view new.handling.io) handed.0 ends.left_later in
+      let later = later-then (view ends.mid.io) (view ends.handed.io) (view new.handling.io) handed.0 ends.left_later in
       by-call ends.mid (plain_request built done.request) ends.request ends.call ends.made.fails ends.calls (sym failed ∙ ends.outcome)
       ends.table later.fails
     where
@@ -279,7 +280,7 @@ released_opening view tells start old new was all listener h releases served ope
         mark = λ t marked. marked_kept (world_of view old) (world_of view new) still.now
             (same_handles (world_of view old) (world_of view new) (releases.world t)) (still.mark t marked);
       };
-  later = later_then (view start.handling.io) (view old.handling.io) (view new.handling.io) opening.later releases.later;
+  later = later-then (view start.handling.io) (view old.handling.io) (view new.handling.io) opening.later releases.later;
   bytes = λ t. bytes_then (world_of view start) (world_of view old) (world_of view new) (opening.bytes t)
       (same_bytes (world_of view old) (world_of view new) (releases.world t));
   streams = λ t. streams_then (world_of view start) (world_of view old) (world_of view new) (opening.streams t)
@@ -313,7 +314,7 @@ pub opened_widens : {I : Type 0} (view : I → IoView) (tells memory : Bool) (ol
 opened_widens view tells memory old new h opened rest =
     let still = by-taken opened.user.taken opened.user.tries in (
       record {
-        later = later_then (view old.handling.io) (view opened.mid.io) (view new.handling.io) opened.made.later still.0;
+        later = later-then (view old.handling.io) (view opened.mid.io) (view new.handling.io) opened.made.later still.0;
         users = users_then old.handling.table opened.mid.table new.handling.table
             (same_users old.handling.table opened.mid.table opened.holders)
             (given_users opened.mid.table new.handling.table h opened.user.table);
@@ -357,7 +358,7 @@ unopened_fails view tells memory old new non_block.OutOfMemory unopened new_numb
 -- Where nothing is called all stays.
 pub none_widens : {I : Type 0} (view : I → IoView) (tells : Bool) (driver : LegacyState I Buf) → Widens view tells driver driver
 none_widens view tells driver = record {
-  later = later_same (view driver.handling.io);
+  later = later-same (view driver.handling.io);
   users = λ h held. held;
   ops = λ op held asked. refl;
   bytes = λ t h. (refl, refl);

@@ -28,6 +28,7 @@ use Rattle.ready_driver.specs.LegacyPolls.{HandsOver}
 use Rattle.ready_driver.specs.LegacyState.{LegacyState, ops_in}
 use Rattle.ready_driver.specs.LegacyTurns.{LegacyTurns, TurnsBy, turning_in}
 use Rattle.ready_driver.specs.Registry.{Handling, TriesFor, is_old, is_users}
+use Rattle.ready_driver.proofs.Still.{later-then, later-same}
 use Rattle.net_stream.specs.Told.{output_at}
 use Rattle.driver_core.proofs.Lists.{get-front}
 use Rattle.relay_net.specs.Connection.{FitsConnection, KeepsStreams, far_of, held_back, held_forth, near_of}
@@ -39,7 +40,6 @@ use Rattle.relay_net.specs.Relay.{AreBeside, AreServed, IsAccept, IsAmong, IsSer
 use Rattle.relay_net.specs.Relay.{Serving}
 use Rattle.relay_net.specs.declared.connection.Connection.{Connection}
 use Rattle.relay_net.specs.declared.round.Lost.{Lost}
-use Rattle.relay_net.proofs.Calls.{later_same, later_then}
 use Rattle.relay_net.proofs.Connections.{ops_fewer}
 use Rattle.relay_net.proofs.Beside.{IsKept, beside_swap, bytes_lines, connection_kept, lines_then}
 use Rattle.relay_net.proofs.Places.{get_pushed}
@@ -183,7 +183,7 @@ module _ {I : Type 0} (view : I → IoView) (tells : Bool) where
               kept.back);
           mark = λ t marked. marked_kept (world_of view old) (world_of view new) still.now (widens.streams t) (still.mark t marked);
         };
-    later = later_then (view start.handling.io) (view old.handling.io) (view new.handling.io) opening.later widens.later;
+    later = later-then (view start.handling.io) (view old.handling.io) (view new.handling.io) opening.later widens.later;
     bytes = λ t. bytes_then (world_of view start) (world_of view old) (world_of view new) (opening.bytes t) (widens.bytes t);
     streams = λ t. streams_then (world_of view start) (world_of view old) (world_of view new) (opening.streams t) (widens.streams t);
     marks = λ t marked. all_marked (world_of view old) (world_of view new) all (widens.streams t) (opening.marks t marked);
@@ -201,7 +201,7 @@ module _ {I : Type 0} (view : I → IoView) (tells : Bool) where
       lines = record { forth_line = λ t a b. refl; back_line = λ t apart a b. refl };
       mark = λ t marked. marked;
     };
-    later = later_same (view driver.handling.io);
+    later = later-same (view driver.handling.io);
     bytes = λ t h. (refl, refl);
     streams = λ t h. (λ stream. stream, λ ended. ended, λ listens. listens, λ going. going);
     marks = λ t marked. marked;
@@ -310,7 +310,7 @@ module _ {I : Type 0} (view : I → IoView) (tells memory : Bool) where
   pub handed_still : (old new : Handling I) (made : Option ℕ) → HandsOver view tells memory old made new
       → IsLater (view old.io) (view new.io) × (IsTrue tells → (view new.io).world ≡ (view old.io).world)
   handed_still old new None hands =
-      (subst (λ h. IsLater (view old.io) (view h.io)) (sym hands) (later_same (view old.io)), λ t. ap (λ h. (view h.io).world) hands)
+      (subst (λ h. IsLater (view old.io) (view h.io)) (sym hands) (later-same (view old.io)), λ t. ap (λ h. (view h.io).world) hands)
   handed_still old new (Some h) hands = by-taken hands.1.taken hands.1.tries
     where
       by-taken : (taken : Bool) → TriesFor tells memory h (view old.io) (view new.io) taken
@@ -334,7 +334,7 @@ module _ {I : Type 0} (view : I → IoView) (tells memory : Bool) where
       by-same : new.handling ≡ old.handling → IsLater (view old.handling.io) (view new.handling.io)
           × KeepsUsers old.handling.table new.handling.table × (IsTrue tells → world_of view new ≡ world_of view old)
       by-same same = (
-        subst (λ h. IsLater (view old.handling.io) (view h.io)) (sym same) (later_same (view old.handling.io)),
+        subst (λ h. IsLater (view old.handling.io) (view h.io)) (sym same) (later-same (view old.handling.io)),
         subst (λ h. KeepsUsers old.handling.table h.table) (sym same) (λ h held. held),
         λ t. ap (λ h. (view h.io).world) same,
       )

@@ -20,6 +20,7 @@ use Rattle.driver_core.specs.declared.op.PollOp.TheVariants.{Pending, Ready}
 use Rattle.ready_driver.specs.Calling.{Called}
 use Rattle.ready_driver.specs.Io.{IoView}
 use Rattle.ready_driver.specs.LegacyState.{LegacyState, ops_in}
+use Rattle.ready_driver.proofs.Still.{later-same}
 use Rattle.op_driver.specs.Legacy.{LegacyDrops, LegacyPolls}
 use Rattle.relay_net.specs.Flow.{IsElse, IsPending, IsReceive, IsSend, asked_at, bytes_sent}
 use Rattle.relay_net.specs.Flow.{line}
@@ -31,7 +32,7 @@ use Rattle.relay_net.specs.declared.flow.Came.TheVariants as came
 use Rattle.relay_net.specs.declared.flow.Stage.{Stage}
 use Rattle.relay_net.specs.declared.flow.Stage.TheVariants as stage
 use Rattle.relay_net.specs.declared.round.RelayError.TheVariants as why
-use Rattle.relay_net.proofs.Calls.{Lawful, later_same, left_users}
+use Rattle.relay_net.proofs.Calls.{Lawful, left_users}
 use Rattle.relay_net.proofs.Polls.{other_key, pending_pends, pending_waits, polled_others, starved_pends, starved_waits}
 use Rattle.relay_net.proofs.Moves.{Brings, Takes, received, sent}
 use Rattle.relay_net.proofs.Flows.{brings_flow, just_fits, just_holds, receive_apart, same_line, send_apart, takes_flow}
@@ -238,7 +239,7 @@ dropped_abandons view tells memory old new op from to P drops pending apart = re
 pub still_abandons : {I : Type 0} (view : I → IoView) (tells : Bool) (driver : LegacyState I Buf) (from to : ℕ)
     → Abandons view tells driver from to driver
 still_abandons view tells driver from to = record {
-  later = later_same (view driver.handling.io);
+  later = later-same (view driver.handling.io);
   users = λ h held. held;
   ops = λ op held else. refl;
   world = λ t. refl;

@@ -53,11 +53,6 @@ placed_from (suc k) zero differ = (zero, refl)
 placed_from (suc k) (suc j) differ =
     let from = placed_from k j (λ e. differ (ap suc e)) in (suc from.0, ap suc from.1)
 
--- What was pushed is in it.
-pub get_last : {X : Type 0} (xs : List X) (x : X) → slice_get (xs ++ x ∷ []) (length xs) ≡ Some x
-get_last [] x = refl
-get_last (a ∷ xs) x = get_last xs x
-
 -- What is in a list behind a push was in it, or is what was pushed.
 pub get_pushed : {X : Type 0} (xs : List X) (y : X) (k : ℕ) (x : X) → slice_get (xs ++ y ∷ []) k ≡ Some x
     → (slice_get xs k ≡ Some x) ⊎ ((x ≡ y) × (k ≡ length xs))

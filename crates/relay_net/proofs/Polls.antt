@@ -31,10 +31,11 @@ use Rattle.ready_driver.specs.LegacyPolls.{HandsOver, outcome_for}
 use Rattle.ready_driver.specs.LegacyState.{LegacyState, ops_in}
 use Rattle.ready_driver.specs.Named.{IsCompleted}
 use Rattle.ready_driver.specs.Registry.{Handling, LetsGo}
+use Rattle.ready_driver.proofs.Still.{later-same}
 use Rattle.op_driver.specs.Legacy.{LegacyPolls}
 use Rattle.relay_net.specs.Flow.{IfAsked, IsPending, asked_at}
 use Rattle.relay_net.specs.Keeping.{KeepsOps, KeepsUsers, world_of}
-use Rattle.relay_net.proofs.Calls.{Lawful, handed_users, later_same, lets_users, plain_in, same_users, users_then}
+use Rattle.relay_net.proofs.Calls.{Lawful, handed_users, lets_users, plain_in, same_users, users_then}
 
 -- The two ways to look up a request agree.
 pub same_asked : (slot : Option (Slot Buf)) → request_in slot ≡ asked_in slot
@@ -91,7 +92,7 @@ module _ {I : Type 0} (view : I → IoView) (tells memory : Bool) (files : I →
 
   unmoved_none : (slot new : Option (Slot Buf)) (before after : I) → after ≡ before → new ≡ slot → Unmoved slot new before after
   unmoved_none slot new before after object same = record {
-    later = subst (λ io. IsLater (view before) (view io)) (sym object) (later_same (view before));
+    later = subst (λ io. IsLater (view before) (view io)) (sym object) (later-same (view before));
     world = λ t. ap (λ io. (view io).world) object;
     asked = ap plain_in same;
     keys = λ m. ap (λ io. (view io).keys) object;

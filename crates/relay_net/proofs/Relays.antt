@@ -9,11 +9,13 @@ use Rattle.rent_buf.specs.declared.plain.Buf.{Buf}
 use Rattle.handle_core.specs.Table.{Table}
 use Rattle.ring_core.specs.World.{input_at}
 use Rattle.ring_core.proofs.Numbers.{same-or-not}
+use Rattle.ring_core.proofs.Appended.{get-append-end}
 use Rattle.driver_core.specs.Ops.{Ops}
 use Rattle.driver_core.specs.declared.op.Op.{Op}
 use Rattle.ready_driver.specs.Io.{IoView, IsLater}
 use Rattle.ready_driver.specs.LegacyState.{LegacyState, ops_in}
 use Rattle.ready_driver.specs.Registry.{is_users}
+use Rattle.ready_driver.proofs.Still.{later-then}
 use Rattle.net_stream.specs.Told.{output_at}
 use Rattle.driver_core.proofs.Lists.{get-front}
 use Rattle.relay_net.specs.Connection.{EndsConnection, IsLostAs, IsMarked, IsOutside, IsOver, KeepsLines}
@@ -29,9 +31,9 @@ use Rattle.relay_net.specs.declared.round.RelayError.{RelayError}
 use Rattle.relay_net.specs.declared.round.RelayError.TheVariants as why
 use Rattle.relay_net.proofs.Marks.{all_marked, either_kept, either_same, marked_kept, removed_marked, same_handles, set_marked}
 use Rattle.relay_net.proofs.Marks.{streams_then}
-use Rattle.relay_net.proofs.Calls.{later_then, pending_kept}
+use Rattle.relay_net.proofs.Calls.{pending_kept}
 use Rattle.relay_net.proofs.Connections.{asked_as}
-use Rattle.relay_net.proofs.Places.{get_last, get_removed, get_set, get_set_other, placed, placed_differ}
+use Rattle.relay_net.proofs.Places.{get_removed, get_set, get_set_other, placed, placed_differ}
 use Rattle.relay_net.proofs.Places.{placed_from, placed_other}
 use Rattle.relay_net.proofs.Beside.{accept_outside, beside_same, beside_swap, bytes_lines, found_same, lines_then, outside_kept}
 
@@ -211,7 +213,7 @@ module _ {I : Type 0} (view : I → IoView) (tells : Bool) where
         let rose = serving.fails lost among in
         let later = serves.leaves.later.fails in
         omega (arith, rose, later);
-    later = later_then (view start.handling.io) (view old.handling.io) (view new.handling.io) serving.later serves.leaves.later;
+    later = later-then (view start.handling.io) (view old.handling.io) (view new.handling.io) serving.later serves.leaves.later;
     streams = λ t. streams_then (world_of view start) (world_of view old) (world_of view new) (serving.streams t) (serves.leaves.streams t);
     marks = λ t marked. set_marked (world_of view old) (world_of view new) all k conn now there (serves.leaves.streams t) (serves.marks t)
         (serving.marks t marked);
@@ -356,7 +358,7 @@ module _ {I : Type 0} (view : I → IoView) (tells : Bool) where
     each = λ one among. becomes_removed start old new one conn all k closed (closed ++ near_of conn ∷ []) failed failed listener
         serving.streams served there ends (λ n is. (is.0, get-front closed (near_of conn ∷ []) is.0 n is.1)) (λ lost is. is)
         (λ lines near far mark. inl (record {
-          named = (length closed, get_last closed (near_of conn) ∙ ap Some near);
+          named = (length closed, get-append-end closed (near_of conn) ∙ ap Some near);
           lines = subst (λ f. KeepsLines tells (world_of view start) (world_of view new) (near_of one) (far_of one)
               (held_forth (ops_in start) one) (held_back (ops_in start) one) f []) over.forth
               (subst (λ b. KeepsLines tells (world_of view start) (world_of view new) (near_of one) (far_of one)
@@ -368,7 +370,7 @@ module _ {I : Type 0} (view : I → IoView) (tells : Bool) where
         let rose = serving.fails lost among in
         let later = ends.later.fails in
         omega (arith, rose, later);
-    later = later_then (view start.handling.io) (view old.handling.io) (view new.handling.io) serving.later ends.later;
+    later = later-then (view start.handling.io) (view old.handling.io) (view new.handling.io) serving.later ends.later;
     streams = λ t. streams_then (world_of view start) (world_of view old) (world_of view new) (serving.streams t)
         (same_handles (world_of view old) (world_of view new) (ends.world t));
     marks = λ t marked. removed_marked (world_of view new) all k
@@ -388,7 +390,7 @@ module _ {I : Type 0} (view : I → IoView) (tells : Bool) where
         serving.streams served there ends (λ n at. at) (λ other at. (at.0, get-front failed (lost ∷ []) at.0 other at.1))
         (λ lines near far mark. inr (record {
           lost = lost;
-          named = (length failed, get_last failed lost);
+          named = (length failed, get-append-end failed lost);
           connection = is.connection ∙ near;
           forth = held_forth (ops_in old) conn;
           back = held_back (ops_in old) conn;
@@ -397,7 +399,7 @@ module _ {I : Type 0} (view : I → IoView) (tells : Bool) where
           lines = lines;
         })) (serving.each one among);
     fails = λ other among. let later = ends.later.fails in omega (arith, rose, later);
-    later = later_then (view start.handling.io) (view old.handling.io) (view new.handling.io) serving.later ends.later;
+    later = later-then (view start.handling.io) (view old.handling.io) (view new.handling.io) serving.later ends.later;
     streams = λ t. streams_then (world_of view start) (world_of view old) (world_of view new) (serving.streams t)
         (same_handles (world_of view old) (world_of view new) (ends.world t));
     marks = λ t marked. removed_marked (world_of view new) all k
@@ -416,7 +418,7 @@ stops_later old mid new (Err why.OutOfMemory) later stops = tt
 pub served_last : (ops : Ops Buf) (table : Table) (listener : ℕ) (all rest : List Connection) (conn : Connection)
     → all ≡ rest ++ conn ∷ [] → AreServed ops table listener all → IsServed ops table listener conn
 served_last ops table listener all rest conn is served =
-    served.each (length rest) conn (ap (λ xs. slice_get xs (length rest)) is ∙ get_last rest conn)
+    served.each (length rest) conn (ap (λ xs. slice_get xs (length rest)) is ∙ get-append-end rest conn)
 
 -- The others are served once it was taken out and ended.
 pub served_rest : {I : Type 0} (view : I → IoView) (tells : Bool) (old new : LegacyState I Buf) (listener : ℕ) (all rest : List Connection)
@@ -426,7 +428,7 @@ served_rest view tells old new listener all rest conn is served ends = record {
   each = λ k other at.
       let was = ap (λ xs. slice_get xs k) is ∙ get-front rest (conn ∷ []) k other at in
       let apart = served.apart k (length rest) other conn (λ same. not_last k other at same) was
-      (ap (λ xs. slice_get xs (length rest)) is ∙ get_last rest conn) in
+      (ap (λ xs. slice_get xs (length rest)) is ∙ get-append-end rest conn) in
       let own = served.each k other was in
       record {
         fits = (outside_kept (ops_in old) (ops_in new) (near_of conn) (far_of conn) other ends.ops apart own.fits).fits;

@@ -9,6 +9,7 @@ use Rattle.rent_buf.specs.declared.plain.Buf.{Buf}
 use Rattle.ring_core.specs.World.{input_at}
 use Rattle.ring_core.specs.declared.world.HandleState.{HandleState}
 use Rattle.ring_core.proofs.Numbers.{same-or-not}
+use Rattle.ring_core.proofs.Appended.{get-append-end}
 use Rattle.ready_driver.specs.Io.{IoView}
 use Rattle.handle_core.specs.Table.{Table}
 use Rattle.ready_driver.specs.LegacyState.{LegacyState, holds_all, ops_in}
@@ -38,7 +39,7 @@ use Rattle.relay_net.proofs.Beside.{connection_kept, found_same, outside_kept}
 use Rattle.relay_net.proofs.Connections.{back_kept, receive_else, send_else, stage_kept}
 use Rattle.relay_net.proofs.Opens.{receive_transfer, send_transfer}
 use Rattle.driver_core.proofs.Lists.{get-front}
-use Rattle.relay_net.proofs.Places.{get_last, get_pushed, get_removed, get_set, get_set_other, placed, placed_other}
+use Rattle.relay_net.proofs.Places.{get_pushed, get_removed, get_set, get_set_other, placed, placed_other}
 
 -- What moves between two handles leaves the output of each but the second, and the input of each but the first.
 moved_output : (old new : List HandleState) (from to h : ℕ) → h ≢ to → MovesBetween old from to new → output_at new h ≡ output_at old h
@@ -460,7 +461,7 @@ module _ {I : Type 0} (view : I → IoView) (tells memory : Bool) (told : IsTrue
             let still = opening.each one among in
             let within = slice_get_within all still.place still.now still.there in
             let apart = served.apart still.place (length all) still.now conn (λ e. absurd (omega (arith, within, e)))
-            (get-front all (conn ∷ []) still.place still.now still.there) (get_last all conn) in
+            (get-front all (conn ∷ []) still.place still.now still.there) (get-append-end all conn) in
             absurd (apart.near_near (still.near ∙ (sym same ∙ ap near_of is.0))))
       ]
 

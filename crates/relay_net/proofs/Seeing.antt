@@ -6,7 +6,6 @@ use Rattle.std.specs.FinMap as map
 use Rattle.std.proofs.lemmas.Bool.Decides.{nat_tests}
 use Rattle.std.proofs.lemmas.Nat.{and_assoc, and_comm, and_le_r, and-not}
 use lib.Bits.{and_zero_r}
-use native.Mathlib.Nat.{pow-suc}
 use Rattle.rent_buf.specs.Parts.{Parts}
 use Rattle.rent_buf.specs.declared.fault.OutOfMemory.{OutOfMemory as NoMemory}
 use Rattle.rent_buf.specs.declared.plain.Buf.{Buf}
@@ -47,25 +46,21 @@ use Rattle.ready_driver.specs.declared.ready.Direction.TheVariants as towards
 use Rattle.ready_driver.specs.declared.records.Record.{Record}
 use Rattle.ready_driver.proofs.Bearing.{bits-beside, bits-kept}
 use Rattle.ready_driver.proofs.Recorded.{changed-none, io-changed}
+use Rattle.ready_driver.proofs.Bits.{below-power}
+use Rattle.ready_driver.proofs.Showing.{bits-registered, bits-unwaiting}
 use Rattle.op_driver.specs.Legacy.{LegacyDrops, LegacySubmits}
 use Rattle.net_stream.specs.Told.{IsStream}
 use Rattle.relay_net.specs.Forwarding.{KeepsSeen, KeepsSeenBut}
 use Rattle.relay_net.specs.Keeping.{MovesBetween, world_of}
 use Rattle.relay_net.proofs.Calls.{left_users}
-use Rattle.relay_net.proofs.Listens.{bits_registered}
 use Rattle.relay_net.proofs.Opens.{unknown_unheld}
-
--- A number is below the power of two of it.
-below_power : (n : ℕ) → n < 2 ^ n
-below_power zero = omega arith
-below_power (suc n) = omega (arith, below_power n, pow-suc 2 n)
 
 -- Bits that are taken away leave what a set of others has of these.
 without_apart : (a b c : ℕ) → bit_and b c ≡ 0 → bit_and (without a b) c ≡ bit_and a c
 without_apart a b c apart =
     let d : ℕ = bit_and a c in
     let w : ℕ = b + (a + c) in
-    let low : w < 2 ^ w = below_power w in
+    let low : w < 2 ^ w = below-power w in
     let rest : ℕ = 2 ^ w - 1 - b in
     let few : d ≤ c = and_le_r a c in
     let parts : bit_and rest a + bit_and b a ≡ a = and-not w b a (omega (arith, low)) (omega (arith, low)) in
@@ -265,12 +260,6 @@ given_bits records after table h k one fresh is held =
     ∙ ap bits_in (put-other records.handles h one k (λ same.
     let no : ◌≡◌ {A = Bool} true false = sym held ∙ (ap (is_users table) same ∙ unknown_unheld table h fresh) in absurd cc))
 
--- What waits no more leaves the bits.
-unwaiting_bits : (records : Kept) (number : ℕ) (awaited : Option (ℕ × Direction)) (h : ℕ)
-    → (io_at (unwaiting records number awaited) h).ready ≡ (io_at records h).ready
-unwaiting_bits records number None h = refl
-unwaiting_bits records number (Some (own, dir)) h = bits-kept records own (with_io (without_waiter number)) (λ one. refl) h
-
 -- Bits that showed a handle show it still, where these stay, and it is readable only if it was.
 pub shows_still : (old new : Bool) (ready now : ℕ) → now ≡ ready → (new ≡ true → old ≡ true) → ShowsBits old ready → ShowsBits new now
 shows_still old new ready now same falls shows = record {
@@ -305,14 +294,14 @@ module _ {I : Type 0} (view : I → IoView) (tells memory : Bool) (told : IsTrue
       → LegacySubmits view tells memory old new request (Err refused) → KeepsSeen view memory old new
   refused_seen old new request refused refuses =
       keeps_seen old new refuses.handles.made.object.world (λ h held. ap (λ r. (io_at r h).ready) refuses.handles.made.records
-      ∙ bits_registered refuses.handles.front old.handling.records h)
+      ∙ bits-registered refuses.handles.front old.handling.records h)
 
   -- A drop.
   pub dropped_seen : (old new : LegacyState I Buf) (op : Op) → LegacyDrops view tells memory old new op → KeepsSeen view memory old new
   dropped_seen old new op drops =
       keeps_seen old new drops.handles.object.world (λ h held. ap (λ r. (io_at r h).ready) drops.handles.records
       ∙ (ap bits_in (users_record (named_in (map.get old.slots.values op.key)) old.handling.table _ h held)
-      ∙ unwaiting_bits old.handling.records op.number _ h))
+      ∙ bits-unwaiting old.handling.records op.number _ h))
 
   -- A handle that is given up, but for that one.
   pub released_seen : (old new : LegacyState I Buf) (fd : ℕ) (table : Table) (b : Bool)

@@ -1,7 +1,7 @@
 //! The other ends of a relay's connections.
-ghost use Rattle.std.specs.Prelude.{◌≡◌, true, false, IsTrue, IfOk, IfErr};
+ghost use Rattle.std.specs.Prelude.{◌≡◌, true, IfOk, IfErr};
 ghost use Rattle.ready_driver.specs.LegacyState.{ops_in};
-ghost use Rattle.ready_driver.specs.Registry.{is_old, is_users};
+ghost use Rattle.ready_driver.specs.Registry.{is_users};
 ghost use Rattle.relay_net.specs.Keeping.{AnyRequest, KeepsOps};
 ghost use Rattle.relay_net.specs.Forwarding.{KeepsSeen};
 ghost use Rattle.relay_net.specs.Keyed.{KeepsKeys};
@@ -10,7 +10,6 @@ ghost use Rattle.relay_net.specs.Opening.{FarFails, IsFar, IsNew, Widens};
 use handle_core::SharedFd;
 use ready_driver::{LegacyDriver, MemIo, NonBlockError, Sockets};
 use rent_buf::Buf;
-use ring_core::MOST_HANDLES;
 
 /// What gives an accepted connection its other end. (not in monoio)
 pub trait Far<I: Sockets>: Drop {
@@ -32,14 +31,6 @@ pub trait Far<I: Sockets>: Drop {
         ensures seen { KeepsSeen I.view I.memory driver.old driver.new };
 }
 
-// The number of the object's next handle can be new.
-pub(crate) fn has_number<I: Sockets>(driver: &LegacyDriver<I, Buf>) -> bool
-    ensures { IsTrue result → is_old driver.now.handling.table (I.view driver.now.handling.io).made ≡ false }
-{
-    let next = driver.io().count();
-    next < MOST_HANDLES && !driver.known(next)
-}
-
 // A connection to a port, whose handle is new. Where the next handle's number can't be new, none is dialled.
 #[tactic(auto, using(crate::proofs::Opened::none_widens, crate::proofs::Keyed::keeps_none))]
 fn dial<I: Sockets>(driver: &mut LegacyDriver<I, Buf>, port: u16) -> Result<SharedFd, NonBlockError>
@@ -51,7 +42,7 @@ fn dial<I: Sockets>(driver: &mut LegacyDriver<I, Buf>, port: u16) -> Result<Shar
     ensures keyed { KeepsKeys I.view I.memory driver.old driver.new }
     ensures seen { KeepsSeen I.view I.memory driver.old driver.new }
 {
-    if !has_number(driver) {
+    if !driver.has_number() {
         return Err(NonBlockError::OutOfMemory);
     }
     match driver.dial(port) {

@@ -14,7 +14,7 @@ ghost use Rattle.relay_net.specs.Relay.{IsAccept, IsSound, StopsUnless};
 ghost use Rattle.relay_net.specs.declared.connection.Connection.{Connection as Conn};
 
 use crate::connection::{Connection, release};
-use crate::far::{Far, has_number};
+use crate::far::Far;
 use crate::flow::{Reads, TASK, submit};
 use crate::round::RelayError;
 use crate::state::State;
@@ -152,7 +152,7 @@ pub(crate) fn arrive<I: Sockets>(state: &mut State<I>) -> Arrival
         → AreUntouched I.view start was state.old.driver state.old.open.items
         → AreUntouched I.view start was state.new.driver state.new.open.items }
 {
-    if !has_number(&state.driver) {
+    if !state.driver.has_number() {
         return Arrival::OutOfMemory;
     }
     match state.accept.take() {

@@ -43,7 +43,7 @@ pub struct Relay<I: Sockets, F: Far<I>> {
     far: F,
     // What a round names, of which nothing stays between rounds but its memory.
     lists: Lists,
-    // The last round ended a connection, so that there is a place for another one. No contract sees it.
+    // The last round ended a connection, and left no accept that waits: there is a place for another one. No contract sees it.
     again: bool,
     // How many connections, from the lowest on, may go on: all, or those in front of where the last round ran out of memory. No contract
     // sees it.
@@ -402,8 +402,8 @@ impl<I: Sockets, F: Far<I>> Relay<I, F> {
     /// that it opened, is open still, was closed or failed; at an error too, which says why the round stopped: then the next one goes on.
     /// At most 129 operations are submitted. The handle of an accepted connection that gets no other end is released. (not in monoio)
     ///
-    /// It doesn't wait either where a direction is to receive or has bytes to send, or where the round before ended a connection: so one
-    /// round may follow another, each with a wait, and no byte waits for that.
+    /// It doesn't wait either where a direction is to receive or has bytes to send, or where the round before ended a connection and left no
+    /// accept that waits: so one round may follow another, each with a wait, and no byte waits for that.
     pub fn round<R: Wait + Clock, P: Ledger, D: Ledger>(
         &mut self,
         rt: &R,
@@ -463,7 +463,7 @@ impl<I: Sockets, F: Far<I>> Relay<I, F> {
             &mut self.lists,
             turned,
         );
-        self.again = self.lists.ended.is_some();
+        self.again = self.lists.ended.is_some() && self.state.accept.is_none();
         self.able = able_behind(&worked, self.lists.ended.reached, self.limit);
         finish(worked, round_with(self.alloc, remote, &mut self.lists))
     }

@@ -1,5 +1,5 @@
 -- What a run comes to once its object has listened.
-use Rattle.std.proofs.Common.{ℕ, suc, ◌≡◌, ◌≤◌, ◌<◌, ◌+◌, ◌∙◌, ap, sym, subst, arith, Bool, IsTrue, [], Ok, Err, None}
+use Rattle.std.proofs.Common.{ℕ, ◌≡◌, ◌≤◌, ◌<◌, ap, sym, subst, arith, Bool, IsTrue, [], Ok, Err, None}
 use Rattle.std.specs.Prelude.{IfErr, IfOk, Result}
 use Rattle.rent_buf.specs.declared.plain.Buf.{Buf}
 use Rattle.ready_driver.specs.Io.{IoView, IsLater}

@@ -1,9 +1,9 @@
 //! The run: it listens, makes the relay and its rounds, and counts the connections that were closed.
-ghost use Rattle.std.specs.Prelude.{◌≡◌, ◌≤◌, ◌+◌, ◌*◌, true, false, IfOk, IfErr, IsTrue};
+ghost use Rattle.std.specs.Prelude.{◌≡◌, ◌≤◌, ◌+◌, ◌*◌, true, IfOk, IfErr};
 ghost use Rattle.rent_buf.specs.Counts.{Rose};
 ghost use Rattle.wake_core.specs.declared.state.TheConstants.{PUSH_PARTS};
 ghost use Rattle.ready_driver.specs.Io.{IoView};
-ghost use Rattle.ready_driver.specs.Registry.{is_old, is_users};
+ghost use Rattle.ready_driver.specs.Registry.{is_users};
 ghost use Rattle.relay_net.specs.Keeping.{StopsFor};
 ghost use Rattle.relay_run.specs.declared.plan.TheConstants.{MOST_LIMIT, MOST_RELAY_ROUNDS};
 ghost use Rattle.relay_run.specs.Relaying.{ClosesNone, HasListened, IsEmptyWorld, ListensFor, MakesRounds, OpensEach, RunsOver};
@@ -16,7 +16,6 @@ use handle_core::SharedFd;
 use ready_driver::{LegacyDriver, NonBlockError, Sockets};
 use relay_net::{Far, Mirror, PortFar, Relay, RelayError};
 use rent_buf::Buf;
-use ring_core::MOST_HANDLES;
 use std::alloc::Global;
 use std::marker::Brand;
 use std::sync::Wait;
@@ -136,7 +135,7 @@ fn listen<R: Wait + Clock, I: Sockets, P: Ledger, D: Ledger>(
     ensures runs { RunsOver I.memory plan.limit plan.rounds (I.view net) (I.view result.net) result.relayed }
 {
     let mut driver: LegacyDriver<I, Buf> = LegacyDriver::over(alloc, net);
-    if !has_number(&driver) {
+    if !driver.has_number() {
         return Over {
             net: driver.into_io(),
             relayed: Relayed::OutOfMemory,
@@ -155,14 +154,6 @@ fn listen<R: Wait + Clock, I: Sockets, P: Ledger, D: Ledger>(
         None => relay(rt, alloc, plan, driver, listener, Mirror, sleeper),
         Some(to) => relay(rt, alloc, plan, driver, listener, PortFar::new(to), sleeper),
     }
-}
-
-// The number of the object's next handle can be new.
-fn has_number<I: Sockets>(driver: &LegacyDriver<I, Buf>) -> bool
-    ensures { IsTrue result → is_old driver.now.handling.table (I.view driver.now.handling.io).made ≡ false }
-{
-    let next = driver.io().count();
-    next < MOST_HANDLES && !driver.known(next)
 }
 
 // How a run ended whose object doesn't listen.

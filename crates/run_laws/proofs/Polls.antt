@@ -1,5 +1,5 @@
 -- The moments of an operation, each at most once, and what a Poll is answered, from the trace of the ledger before each event.
-use Rattle.std.proofs.Common.{◌≡◌, ◌⊎◌, inl, inr, ℕ, ◌<◌, ◌≤◌, true, List, length, take, Some, None, slice_get, sym, ◌∙◌, ap, subst, arith}
+use Rattle.std.proofs.Common.{◌≡◌, ◌⊎◌, inl, inr, ℕ, ◌<◌, ◌≤◌, true, List, length, Some, None, slice_get, sym, ◌∙◌, ap, subst, arith}
 use Rattle.std.proofs.lemmas.Option.{slice_get_within, slice_get_past}
 use Rattle.ring_core.specs.declared.ledger.Event.{Event}
 use Rattle.ring_core.specs.declared.ledger.Event.TheVariants.{Submit, Poll, Exec}

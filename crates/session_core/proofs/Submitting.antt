@@ -13,9 +13,9 @@ use Rattle.ring_core.specs.declared.ledger.Refusal.TheVariants.{NoCanceller, NoH
 use Rattle.ring_core.specs.declared.request.Request.{Request}
 use Rattle.ring_core.specs.Refusal.{cause, refused_if, has_no_canceller, lacks_handle}
 use Rattle.driver_core.specs.Answers.{IsUnder}
+use Rattle.driver_core.proofs.Grouping.{under-known}
 use Rattle.uring_driver.specs.Uring.{holds_all, live_slots}
 use Rattle.uring_driver.proofs.Steps.{below-test, past-test}
-use Rattle.ready_run.proofs.Submitting.{made-under}
 use Rattle.session_core.specs.declared.session.Session.{Session}
 use Rattle.session_core.specs.Session.{SessionStands}
 use Rattle.session_core.specs.Submission.{IsUnmade}
@@ -32,12 +32,6 @@ causes L request under linked unmade lacks full u l f =
     ∙ ap (λ b. refused_if unmade NoCanceller (refused_if b NoHandle
     (refused_if (not (is_under_marked L under) && nat_le MOST_LIVE (length (live_ops L))) Full None))) l
     ∙ ap (λ b. refused_if unmade NoCanceller (refused_if lacks NoHandle (refused_if b Full None))) f
-
--- A submission under a handle that was made, or under none, names no handle that wasn't, linked or not.
-made-any : (L : Ledger) (request : Request Buffer Parts) (group under : Option ℕ) (linked : Bool) → IsUnder L group under →
-    has_no_canceller L (Submit request under linked) ≡ false
-made-any L request group None linked is = refl
-made-any L request group (Some handle) linked is = made-under L request group (Some handle) is
 
 -- The user holds each handle that a submission names where the driver says so.
 lacks-none : (session : Session) (L : Ledger) (request : Request Buffer Parts) (held : Bool) → SessionStands session L →
@@ -60,7 +54,7 @@ pub cause-submit_handle : (session : Session) (L : Ledger) (request : Request Bu
     cause L (Submit request under linked) ≡ Some NoHandle
 cause-submit_handle session L request group under linked stands is absent =
     causes L request under linked false true (not (is_under_marked L under) && nat_le MOST_LIVE (length (live_ops L)))
-    (made-any L request group under linked is) (lacks-none session L request false stands absent) refl
+    (under-known L request group under linked is) (lacks-none session L request false stands absent) refl
 
 -- Where as many operations as there may be are live, another one is refused as Full, unless its group is marked.
 pub cause-submit_full : (session : Session) (L : Ledger) (request : Request Buffer Parts) (group under : Option ℕ)
@@ -69,7 +63,7 @@ pub cause-submit_full : (session : Session) (L : Ledger) (request : Request Buff
     live ≡ live_slots session.driver → MOST_LIVE ≤ live → marked ≡ is_under_marked L under → marked ≡ false →
     cause L (Submit request under linked) ≡ Some Full
 cause-submit_full session L request group under linked live marked stands is held count full same unmarked =
-    causes L request under linked false false true (made-any L request group under linked is)
+    causes L request under linked false false true (under-known L request group under linked is)
     (lacks-none session L request true stands held)
     (ap (λ b. not b && nat_le MOST_LIVE (length (live_ops L))) (sym same ∙ unmarked)
     ∙ ap (λ k. nat_le MOST_LIVE k) (sym stands.driver.operations.in_slots.counted ∙ sym count) ∙ past-test MOST_LIVE live full)
@@ -79,7 +73,7 @@ pub unrefused-marked : (session : Session) (L : Ledger) (request : Request Buffe
     SessionStands session L → IsUnder L group under → holds_all session.driver (named request) ≡ true →
     marked ≡ is_under_marked L under → marked ≡ true → cause L (Submit request under linked) ≡ None
 unrefused-marked session L request group under linked marked stands is held same marks =
-    causes L request under linked false false false (made-any L request group under linked is)
+    causes L request under linked false false false (under-known L request group under linked is)
     (lacks-none session L request true stands held)
     (ap (λ b. not b && nat_le MOST_LIVE (length (live_ops L))) (sym same ∙ marks))
 
@@ -88,7 +82,7 @@ pub unrefused-fewer : (session : Session) (L : Ledger) (request : Request Buffer
     (live : ℕ) → SessionStands session L → IsUnder L group under → holds_all session.driver (named request) ≡ true →
     live ≡ live_slots session.driver → live < MOST_LIVE → cause L (Submit request under linked) ≡ None
 unrefused-fewer session L request group under linked live stands is held count fewer =
-    causes L request under linked false false false (made-any L request group under linked is)
+    causes L request under linked false false false (under-known L request group under linked is)
     (lacks-none session L request true stands held)
     (ap (λ b. not (is_under_marked L under) && b) (ap (λ k. nat_le MOST_LIVE k)
     (sym stands.driver.operations.in_slots.counted ∙ sym count) ∙ below-test MOST_LIVE live fewer)

@@ -1,7 +1,9 @@
 //! The handles that a readiness driver opens: listeners, and connections that it dials.
+ghost use Rattle.std.specs.Prelude.{◌≡◌, false, not, IsTrue};
 ghost use Rattle.ring_core.specs.declared.world.HandleKind.TheVariants.{Listener, Stream};
 ghost use Rattle.ready_driver.specs.Dialing.{OpensFor};
 ghost use Rattle.ready_driver.specs.LegacyState.{SameOps};
+ghost use Rattle.ready_driver.specs.Registry.{is_old};
 
 use crate::legacy::LegacyDriver;
 use crate::non_block::NonBlockError;
@@ -10,6 +12,14 @@ use handle_core::SharedFd;
 use rent_buf::IoBufMut;
 
 impl<I: Sockets, B: IoBufMut + Drop> LegacyDriver<I, B> {
+    /// The number that the object gives next can be new: nobody holds it, and it is below `MOST_HANDLES`. (not in monoio)
+    pub fn has_number(&self) -> bool
+        ensures value { result ≡ not (is_old self.now.handling.table (I.view self.now.handling.io).made) }
+        ensures new { IsTrue result → is_old self.now.handling.table (I.view self.now.handling.io).made ≡ false }
+    {
+        !self.registry.is_old(self.registry.io().count())
+    }
+
     /// A new handle that listens on a port, which its user holds. It is registered; one that the object doesn't register is tried again at
     /// each submission that names it. (monoio: `TcpListener::bind`)
     ///

@@ -29,14 +29,14 @@ fn end_accept<I: Sockets>(
     driver: &mut Reads<I>,
     accept: Option<Op>,
     listener: SharedFd,
-    open: &Vec<Connection>,
+    conns: &Vec<Connection>,
 )
-    requires sound { IsSound (ops_in driver.old) driver.old.handling.table listener accept open.now.items }
-    ensures served { AreServed (ops_in driver.new) driver.new.handling.table listener open.now.items }
+    requires sound { IsSound (ops_in driver.old) driver.old.handling.table listener accept conns.now.items }
+    ensures served { AreServed (ops_in driver.new) driver.new.handling.table listener conns.now.items }
     ensures later { IsLater (I.view driver.old.handling.io) (I.view driver.new.handling.io) }
     ensures made { (I.view driver.new.handling.io).made ≡ (I.view driver.old.handling.io).made }
 {
-    let _ = open.len();
+    let _ = conns.len();
     match accept {
         Some(op) => drop_accept(driver, op, listener),
         None => {}
@@ -44,17 +44,17 @@ fn end_accept<I: Sockets>(
 }
 
 // Ends each connection.
-fn end_each<I: Sockets>(driver: &mut Reads<I>, listener: SharedFd, open: Vec<Connection>)
-    requires served { AreServed (ops_in driver.old) driver.old.handling.table listener open.items }
+fn end_each<I: Sockets>(driver: &mut Reads<I>, listener: SharedFd, conns: Vec<Connection>)
+    requires served { AreServed (ops_in driver.old) driver.old.handling.table listener conns.items }
     ensures later { IsLater (I.view driver.old.handling.io) (I.view driver.new.handling.io) }
     ensures made { (I.view driver.new.handling.io).made ≡ (I.view driver.old.handling.io).made }
 {
     let _ = listener;
-    let mut open = open;
-    while let Some(conn) = open.pop() {
+    let mut conns = conns;
+    while let Some(conn) = conns.pop() {
         conn.end(driver);
     }
-    open.destroy_empty();
+    conns.destroy_empty();
 }
 
 // Drops the accept that waits, and ends each connection. The driver comes back.

@@ -1,6 +1,5 @@
 use Rattle.std.proofs.Common.{◌∙◌, ap, subst, sym, ◌++◌, ◌∷◌, []}
 use Rattle.std.specs.Prelude.{length, map, slice_get}
-use Rattle.relay_net.proofs.Places.{get_last}
 use Rattle.ready_driver.specs.LegacyState.{ops_in}
 use Rattle.relay_net.specs.Connection.{near_of}
 use Rattle.relay_net.specs.Opening.{Opening}
@@ -12,6 +11,7 @@ use Rattle.relay_net.proofs.Keyed.{keeps_then}
 use Rattle.relay_net.specs.Forwarding.{AreUntouched}
 use Rattle.relay_net.proofs.Rounds.{untouched_pushed, untouched_widens}
 use Rattle.relay_net.proofs.opening.open_one.Goals as goal
+use Rattle.ring_core.proofs.Appended.{get-append-end}
 
 pub returns-then-is_err-clause-sound : goal.returns-then-is_err-clause-sound
 returns-then-is_err-clause-sound g c =
@@ -92,7 +92,7 @@ returns-in-Ok-clause-first g c = record {
     length c.args.state.now.open.items,
     ap (λ xs. slice_get xs (length c.args.state.now.open.items))
         (c.push_reserved.ensures.items ∙ ap (λ xs. xs ++ c.new.result ∷ []) c.reserve.ensures.items)
-        ∙ get_last c.args.state.now.open.items c.new.result,
+        ∙ get-append-end c.args.state.now.open.items c.new.result,
   );
   near = c.new.ensures.handles.0;
   going = c.new.ensures.going;

@@ -4,9 +4,9 @@ use Rattle.std.proofs.lemmas.List.Sorted.{IsPermutation-refl, IsPermutation-tran
 use Rattle.relay_net.specs.Forwarding.{RoundBehind, RoundTo}
 use Rattle.relay_net.specs.Relay.{GoesOn}
 use Rattle.relay_net.proofs.Rounds.{round_ends, round_starts}
-use Rattle.relay_net.proofs.Calls.{later_same, later_then}
 use Rattle.relay_net.proofs.Keyed.{keeps_none, keeps_then}
 use Rattle.relay_net.proofs.state.serve_all.Goals as goal
+use Rattle.ready_driver.proofs.Still.{later-then, later-same}
 
 pub returns-in_err-serve_at-clause-serving : goal.returns-in_err-serve_at-clause-serving
 returns-in_err-serve_at-clause-serving g c = λ start was serving.
@@ -39,7 +39,7 @@ loop-at-preserved-then-branch g c =
       sound = now.sound;
       serving = λ start was serving. now.serving start was (before.serving start was serving);
       names = IsPermutation-trans _ _ _ now.names before.names;
-      later = later_then (g.I.NonBlock.view c.args.state.now.driver.handling.io) (g.I.NonBlock.view c.loop-at.state.driver.handling.io)
+      later = later-then (g.I.NonBlock.view c.args.state.now.driver.handling.io) (g.I.NonBlock.view c.loop-at.state.driver.handling.io)
           (g.I.NonBlock.view c.serve_at.new.state.driver.handling.io) before.later now.later;
       same = (now.same.0 ∙ before.same.0, now.same.1 ∙ before.same.1);
       within = omega (arith, test, size, within, goes);
@@ -80,7 +80,7 @@ loop-at-preserved g c =
       sound = now.sound;
       serving = λ start was serving. now.serving start was (before.serving start was serving);
       names = IsPermutation-trans _ _ _ now.names before.names;
-      later = later_then (g.I.NonBlock.view c.args.state.now.driver.handling.io) (g.I.NonBlock.view c.loop-at.state.driver.handling.io)
+      later = later-then (g.I.NonBlock.view c.args.state.now.driver.handling.io) (g.I.NonBlock.view c.loop-at.state.driver.handling.io)
           (g.I.NonBlock.view c.serve_at.new.state.driver.handling.io) before.later now.later;
       same = (now.same.0 ∙ before.same.0, now.same.1 ∙ before.same.1);
       within = omega (arith, test, size, within, goes);
@@ -109,7 +109,7 @@ loop-at-init g c =
       sound = c.requires.sound;
       serving = λ start was serving. serving;
       names = IsPermutation-refl _;
-      later = later_same (g.I.NonBlock.view c.args.state.now.driver.handling.io);
+      later = later-same (g.I.NonBlock.view c.args.state.now.driver.handling.io);
       same = (refl, refl);
       within = omega arith;
       fewer = omega arith;

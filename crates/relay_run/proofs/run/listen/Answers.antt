@@ -13,7 +13,7 @@ returns-in-Err g c = record {
       (RunsOver g.I.NonBlock.memory c.args.plan.limit c.args.plan.rounds (g.I.NonBlock.view c.args.net)
       (g.I.NonBlock.view c.listen.new.self.handling.io)) (sym c.refused.ensures)
       (unopened_runs g.I.NonBlock.view g.I.NonBlock.tells g.I.NonBlock.memory c.args.plan.limit c.args.plan.rounds c.args.net
-      c.over-driver.result.handling c.listen.new.self.handling c.in-Err.why c.over-driver.ensures.io (c.has_number.ensures cc)
+      c.over-driver.result.handling c.listen.new.self.handling c.in-Err.why c.over-driver.ensures.io (c.has_number.ensures.new cc)
       c.in-Err.ensures.opens));
 }
 
