@@ -1,6 +1,8 @@
 //! Sockets of the system on this machine, whose calls are made at once.
-ghost use Rattle.std.specs.Prelude.{◌≡◌, ◌≤◌, [], false, length, Some, None, is_some, IsSome, IfOk, OnOk, vec_len};
+ghost use Rattle.std.specs.Prelude.{◌≡◌, ◌≤◌, [], false, length, take, Some, None, is_some, IsSome, IfOk, OnOk, vec_len};
 ghost use Rattle.std.specs.FinMap as finite;
+ghost use Rattle.rent_buf.specs.Buffer.{shown};
+ghost use Rattle.ring_core.specs.declared.request.TheConstants.{MOST_ASKED};
 ghost use Rattle.ring_core.specs.declared.world.HandleKind.TheVariants.{Listener, Stream};
 ghost use Rattle.ring_core.specs.Request.{plain_request, room_of, sent_of};
 ghost use Rattle.ring_core.specs.Surroundings.{around, request_around};
@@ -50,7 +52,8 @@ pub const UNSUPPORTED: u16 = 95;
 /// that isn't open, or is of another kind, ends with `INVALID`. One that the system refuses ends with the system's error number, or with
 /// `NO_NUMBER` where it tells none, unless it would block.
 ///
-/// A call moves at most `MOST_MOVED` bytes, and copies them once. It finds its socket by a hash, however many there are. A count saturates.
+/// A call moves at most `MOST_MOVED` bytes. It copies those that it reads, and those that it sends of parts, once, and those that it sends of
+/// one buffer not at all. It finds its socket by a hash, however many there are. A count saturates.
 #[derive(Drop)]
 pub struct MioIo<R> {
     rt: R,
@@ -60,7 +63,7 @@ pub struct MioIo<R> {
     probe: Probe,
     // Where bytes are read.
     room: Vec<u8>,
-    // The bytes that are sent.
+    // The bytes that are sent of parts.
     sent: ByteList,
     counts: Counts,
     // How often they waited, but for waits that ended with an error, and were asked to close a handle.
@@ -148,8 +151,31 @@ impl<R: Net> MioIo<R> {
         }
     }
 
-    // Sends bytes that a request shows on a stream.
+    // Sends bytes that a request shows on a stream: those of one buffer as they lie there, and those of parts one behind another.
     fn send<B: IoBufMut>(&mut self, h: u64, request: &Request<B, VecBuf>) -> CallAnswer
+        ensures sends { MovesFor (length (sent_of (plain_request B.buffer request.now))) self.old self.new result }
+        ensures unfit { is_stream (finite.get self.old.kinds h) ≡ false → IsInvalid result }
+    {
+        match request {
+            Request::Send { fd: _, buf } => self.send_buffer(h, buf),
+            _ => self.send_shown(h, request),
+        }
+    }
+
+    // Sends bytes of a buffer on a stream. It copies none, and takes no memory.
+    fn send_buffer<B: IoBufMut>(&mut self, h: u64, buf: &B) -> CallAnswer
+        ensures sends { MovesFor (length (take MOST_ASKED (shown (B.buffer buf.now)))) self.old self.new result }
+        ensures unfit { is_stream (finite.get self.old.kinds h) ≡ false → IsInvalid result }
+    {
+        buf.keeps_bounds();
+        match write_first(&self.table, h, buf.bytes()) {
+            Ok(count) => CallAnswer::Done(Outcome::Count(count)),
+            Err(refusal) => self.counts.refuse(refusal),
+        }
+    }
+
+    // Sends bytes that a request shows on a stream, which are copied first.
+    fn send_shown<B: IoBufMut>(&mut self, h: u64, request: &Request<B, VecBuf>) -> CallAnswer
         ensures sends { MovesFor (length (sent_of (plain_request B.buffer request.now))) self.old self.new result }
         ensures unfit { is_stream (finite.get self.old.kinds h) ≡ false → IsInvalid result }
     {
@@ -157,8 +183,8 @@ impl<R: Net> MioIo<R> {
         if request.append_shown(MOST_MOVED, &mut self.sent).is_err() {
             return CallAnswer::OutOfMemory;
         }
-        match self.table.write(h, self.sent.as_slice()) {
-            Ok(count) => CallAnswer::Done(Outcome::Count(count as u32)),
+        match write_first(&self.table, h, self.sent.as_slice()) {
+            Ok(count) => CallAnswer::Done(Outcome::Count(count)),
             Err(refusal) => self.counts.refuse(refusal),
         }
     }
@@ -197,6 +223,18 @@ fn read_into(table: &mut Table, h: u64, room: &mut [u8], most: u32) -> Result<u3
 {
     let most = room.len().min(most as usize);
     match table.read(h, &mut room[..most]) {
+        Ok(count) => Ok(count as u32),
+        Err(refusal) => Err(refusal),
+    }
+}
+
+// Sends the first of some bytes on a stream, as many as one call moves at most, and answers how many went.
+fn write_first(table: &Table, h: u64, bytes: &[u8]) -> Result<u32, Refusal>
+    ensures within { IfOk result (λ n. (n ≤ MOST_MOVED) × (n ≤ length bytes.now)) }
+    ensures unfit { RefusesUnfit (is_stream (finite.get table.now.kinds h)) result }
+{
+    let most = bytes.len().min(MOST_MOVED);
+    match table.write(h, &bytes[..most]) {
         Ok(count) => Ok(count as u32),
         Err(refusal) => Err(refusal),
     }

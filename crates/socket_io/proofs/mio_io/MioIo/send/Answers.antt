@@ -1,21 +1,9 @@
-use Rattle.std.proofs.Common.{sym, ◌∙◌, ◌≤◌, length, subst, arith}
-use Rattle.ring_core.specs.Request.{plain_request, shown_by}
-use Rattle.ready_driver.proofs.Called.{on-ok}
-use Rattle.socket_io.proofs.Hosted.{shown-few}
+use Rattle.std.proofs.Common.{length, subst, sym}
+use Rattle.ring_core.specs.Request.{plain_request, sent_of}
+use Rattle.socket_io.specs.MioIo.{MovesFor}
 use Rattle.socket_io.proofs.mio_io.MioIo.send.Goals as goal
 
-pub overflow_cast-result : goal.overflow_cast-result
-overflow_cast-result g c =
-    let few = shown-few c.self.inside.sent c.truncate.new.self c.append_shown.new.list
-    (shown_by (plain_request g.B.IoBufMut.buffer c.args.request.now)) c.in-Ok.count c.truncate.ensures
-    (on-ok c.append_shown.result (sym c.is_err.ensures.value ∙ c.if-is_err.false) c.append_shown.ensures.ok)
-    (subst (λ bytes. c.in-Ok.count ≤ length bytes) c.as_slice.ensures c.in-Ok.ensures.within) in
-    omega (arith, few.0)
-
-pub returns-in-Ok-clause-sends : goal.returns-in-Ok-clause-sends
-returns-in-Ok-clause-sends g c =
-    let few = shown-few c.self.inside.sent c.truncate.new.self c.append_shown.new.list
-    (shown_by (plain_request g.B.IoBufMut.buffer c.args.request.now)) c.in-Ok.count c.truncate.ensures
-    (on-ok c.append_shown.result (sym c.is_err.ensures.value ∙ c.if-is_err.false) c.append_shown.ensures.ok)
-    (subst (λ bytes. c.in-Ok.count ≤ length bytes) c.as_slice.ensures c.in-Ok.ensures.within) in
-    (few.1, c.self.view_is)
+pub returns-in-Send-clause-sends : goal.returns-in-Send-clause-sends
+returns-in-Send-clause-sends g c =
+    subst (λ request. MovesFor (length (sent_of (plain_request g.B.IoBufMut.buffer request))) c.args.self.now c.send_buffer.new.self
+    c.send_buffer.result) (sym c.in-Send.is) c.send_buffer.ensures.sends
