@@ -420,6 +420,3 @@ impl<D, J: Job<D>> Exec<D, J, J::Out> {
         Ok(driver)
     }
 }
-
-#[cfg(test)]
-mod tests;

@@ -11,6 +11,3 @@ mod session;
 pub use answer::{Answer, Halt, Shown};
 pub use line::Line;
 pub use run::{Ending, faults_of, run_faults};
-
-#[cfg(test)]
-mod tests;

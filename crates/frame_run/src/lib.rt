@@ -13,6 +13,3 @@ pub mod unframing;
 
 pub use framing::{Framed, frame_all};
 pub use unframing::{Unframed, unframe_all};
-
-#[cfg(test)]
-mod tests;

@@ -9,6 +9,3 @@ mod usage;
 pub use heard::{HeardRead, HeardWrite};
 pub use line::{Complaint, explain, explain_fault, line_of};
 pub use usage::{UsageError, usage_error};
-
-#[cfg(test)]
-mod tests;

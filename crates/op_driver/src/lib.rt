@@ -6,6 +6,3 @@ mod op_driver;
 mod uring;
 
 pub use op_driver::OpDriver;
-
-#[cfg(test)]
-mod tests;

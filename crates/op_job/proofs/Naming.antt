@@ -1,12 +1,10 @@
 -- A turn of a readiness driver names each task whose operation waits, once a bit meets its direction.
 use Rattle.std.proofs.Common.{ℕ, ◌≡◌, ◌∙◌, ◌⊎◌, inl, inr, ap, sym, refl, subst, Bool, true, false, cond, eqb, not, List, [], ◌∷◌, ◌++◌}
 use Rattle.std.proofs.Common.{Option, Some, None, option_map, unwrap_or, arith}
-use Rattle.std.specs.Prelude.{◌==◌, bit_and, bit_or, min, max, IsSome}
-use Rattle.std.specs.Int.{bit_at}
+use Rattle.std.specs.Prelude.{◌==◌, bit_and, bit_or, IsSome}
 use Rattle.std.specs.List.{Contains}
 use Rattle.std.proofs.lemmas.Bool.Decides.{eqb_tells, nat_tests}
 use Rattle.std.proofs.lemmas.List.Elements.{Contains-append_left, Contains-append_right}
-use Rattle.std.proofs.lemmas.Nat.Bits.{bit_at_and, bit_at_or, same_from_bits}
 use Rattle.ready_driver.specs.declared.non_block.Report.{Report}
 use Rattle.ready_driver.specs.declared.records.Record.{Record}
 use Rattle.ready_driver.specs.declared.scheduled_io.Waiter.{Waiter}
@@ -23,17 +21,8 @@ use Rattle.driver_core.specs.declared.op.Stop.TheVariants.{RingFault, Busy, BadC
 use Rattle.driver_core.specs.declared.op.Turned.{Turned}
 use Rattle.ready_driver.proofs.Recorded.{changed-other, io-changed}
 use Rattle.ready_driver.proofs.Waiting.{IsNamed, taken_named}
+use Rattle.ready_driver.proofs.Reported.{shared_union}
 use Rattle.op_job.specs.Met.{IsWaiting, NamesMet}
-
--- What two sets have in common with a third, and what their union has.
-least_of_greater : (x y z : ℕ) → min (max x y) z ≡ max (min x z) (min y z)
-least_of_greater x y z = omega arith
-
-union_shares : (a b m : ℕ) → bit_and (bit_or a b) m ≡ bit_or (bit_and a m) (bit_and b m)
-union_shares a b m = same_from_bits _ _ (λ k.
-    bit_at_and (bit_or a b) m k ∙ ap (λ n. min n (bit_at m k)) (bit_at_or a b k) ∙ least_of_greater (bit_at a k) (bit_at b k) (bit_at m k)
-    ∙ sym (bit_at_or (bit_and a m) (bit_and b m) k ∙ ap (λ n. max n (bit_at (bit_and b m) k)) (bit_at_and a m k)
-    ∙ ap (max (min (bit_at a k) (bit_at m k))) (bit_at_and b m k)))
 
 -- A set that doesn't meet another has no bit of it.
 none_shared : (n : ℕ) → not (n == 0) ≡ false → n ≡ 0
@@ -44,7 +33,7 @@ union_unmet : (a b m : ℕ) → meets a m ≡ false → meets b m ≡ false → 
 union_unmet a b m one other =
     let first : bit_and a m ≡ 0 = none_shared (bit_and a m) one in
     let second : bit_and b m ≡ 0 = none_shared (bit_and b m) other in
-    ap (λ n. not (n == 0)) (union_shares a b m ∙ ap (λ n. bit_or n (bit_and b m)) first ∙ ap (λ n. bit_or 0 n) second)
+    ap (λ n. not (n == 0)) (shared_union a b m ∙ ap (λ n. bit_or n (bit_and b m)) first ∙ ap (λ n. bit_or 0 n) second)
 
 -- The first entry of an operation, which a set of bits leaves, is the first of those that are left.
 left_entry : (ready : ℕ) (ws : List Waiter) (n : ℕ) (w : Waiter) → waiter_of ws n ≡ Some w → takes ready w ≡ false

@@ -1,5 +1,5 @@
 -- A turn of an executor comes to each task that the turn of its readiness driver names.
-use Rattle.std.proofs.Common.{ℕ, suc, zero, ◌≡◌, ◌≤◌, ◌<◌, ◌∙◌, ◌⊎◌, inl, inr, ap, sym, refl, subst, Bool, true, false, List, [], ◌∷◌}
+use Rattle.std.proofs.Common.{ℕ, suc, zero, ◌≡◌, ◌∙◌, inl, inr, ap, sym, refl, subst, Bool, true, false, List, [], ◌∷◌}
 use Rattle.std.proofs.Common.{Option, Some, None, Ok, Err, arith, eq-eqb}
 use Rattle.std.specs.Prelude.{◌||◌, ◌==◌, ◌++◌, IfOk, IsSome, IsTrue, Result, option_map}
 use Rattle.rent_buf.specs.declared.fault.OutOfMemory.{OutOfMemory}
@@ -22,6 +22,7 @@ use Rattle.ready_driver.specs.Registry.{AreKeyed}
 use Rattle.ready_driver.specs.Turns.{AreReported}
 use Rattle.op_job.specs.Met.{IsReached, IsWaiting, MissesNone, NamesMet, is_met}
 use Rattle.op_job.proofs.Naming.{turn_names}
+use Rattle.ring_core.proofs.Numbers.{below-or-not}
 
 -- A list has each number that it contains.
 pub has_in : (xs : List ℕ) (t : ℕ) → Contains xs t → has_number t xs ≡ true
@@ -49,17 +50,11 @@ named_mark : {J : Type 0} (now : ℕ) (b : Bool) (x : Option (Task J)) → b ≡
 named_mark now b None is there = absurd cc
 named_mark now b (Some task) is there = ap (λ c. task.marked || (c || is_late now (Some task))) is ∙ or_true task.marked
 
--- A number is below another, or not.
-before_or_not : (a b : ℕ) → (a < b) ⊎ (b ≤ a)
-before_or_not a zero = inr (omega arith)
-before_or_not zero (suc b) = inl (omega arith)
-before_or_not (suc a) (suc b) = elim (before_or_not a b) [ inl h ↦ inl (omega (arith, h)) | inr h ↦ inr (omega (arith, h)) ]
-
 -- A turn that reaches the ready tasks reaches each that is marked.
 pub reached_marked : {J : Type 0} (was is : ℕ → Option (Task J)) (polled : List ℕ) (stopped : Option ℕ) (t : ℕ)
     → Reaches was is polled stopped → mark_of (was t) ≡ true → IsReached polled stopped t
 reached_marked was is polled None t reaches marked = inl (reaches.all refl t marked)
-reached_marked was is polled (Some r) t reaches marked = elim (before_or_not t r) [
+reached_marked was is polled (Some r) t reaches marked = elim (below-or-not t r) [
   | inl before ↦ inl ((reaches.stop r refl).front t before marked)
   | inr behind ↦ inr (r, refl, behind)
 ]

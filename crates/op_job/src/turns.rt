@@ -94,6 +94,3 @@ pub fn abandon_all<B: IoBufMut + Drop, F: Follow<B>, D: OpDriver<B>>(exec: &mut 
 {
     while abandon_first(exec) {}
 }
-
-#[cfg(test)]
-mod tests;

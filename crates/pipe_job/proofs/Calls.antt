@@ -36,6 +36,7 @@ use Rattle.driver_core.specs.declared.operations.calls.CallAnswer.TheVariants.{D
 use Rattle.driver_core.specs.declared.slot.Slot.{Slot}
 use Rattle.ready_driver.specs.Calling.{Called, CallsOnce, request_in}
 use Rattle.ready_driver.specs.Io.{IoView, CallsFor, EndsFor, IsLater, made_after}
+use Rattle.ready_driver.proofs.Still.{later-then}
 use Rattle.pipe_job.specs.Course.{Coursed, IsNext}
 use Rattle.pipe_job.proofs.Moving.{next_is}
 use Rattle.pipe_job.specs.Waits.{FitsWait, IsOwn, NextIf}
@@ -45,14 +46,6 @@ abbrev pub Lawful : {I : Type 0} → (I → IoView) → Bool → Bool → Called
 Lawful {I} view tells memory called = (old : I) (request : Request Buffer Parts) (new : I) (now : Request Buffer Parts)
     (answer : CallAnswer)
     → called old request new now answer → CallsFor tells memory (view old) request (view new) now answer
-
--- Counts that are later than later ones are later.
-pub later_both : (one two three : IoView) → IsLater one two → IsLater two three → IsLater one three
-later_both one two three first second = record {
-  faults = let a = first.faults in let b = second.faults in omega (arith, a, b);
-  blocks = let a = first.blocks in let b = second.blocks in omega (arith, a, b);
-  fails = let a = first.fails in let b = second.fails in omega (arith, a, b);
-}
 
 module _ {I : Type 0} (view : I → IoView) (tells memory : Bool) (called : Called I) (law : Lawful view tells memory called) where
   -- Counts are no later than themselves.
@@ -297,10 +290,10 @@ module _ {I : Type 0} (view : I → IoView) (tells memory : Bool) (called : Call
       (unless (files old.handling.io) (slot_awaits (map.get old.slots.values op.key))))
       (map.get old.slots.values op.key) (map.get new.slots.values op.key) old.handling.io new.handling.io (Err error) ends.2
   poll_later files old new op task (Ok (Ready done)) ends =
-      later_both (view old.handling.io) (view ends.mid.io) (view new.handling.io)
+      later-then (view old.handling.io) (view ends.mid.io) (view new.handling.io)
       (called_later view tells memory called law (is_met_at old.handling.records
       (unless (files old.handling.io) (slot_awaits (map.get old.slots.values op.key))))
       (map.get old.slots.values op.key) (map.get new.slots.values op.key) old.handling.io ends.mid.io
       (Ok (Ready (record done { outcome = ends.call }))) ends.calls)
-      (later_both (view ends.mid.io) (view ends.handed.io) (view new.handling.io)
+      (later-then (view ends.mid.io) (view ends.handed.io) (view new.handling.io)
       (hands_later ends.mid ends.handed (made_by done.outcome) ends.hands) ends.lets.object.later)

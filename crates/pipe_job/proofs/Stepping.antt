@@ -23,6 +23,7 @@ use Rattle.ready_driver.specs.Others.{MeetsNone}
 use Rattle.ready_driver.specs.Ready.{mask_of, meets}
 use Rattle.ready_driver.specs.Records.{io_at}
 use Rattle.ready_driver.proofs.Others.{refused-keep, submits-keep}
+use Rattle.ready_driver.proofs.Still.{later-then}
 use Rattle.pipe_job.specs.Causes.{PipeFaultFor, StepEndsFor, WaitsBy}
 use Rattle.pipe_job.specs.Course.{Coursed, IsSameBytes, IsWhole, received_in, sent_in}
 use Rattle.pipe_job.specs.Moves.{HasOwn, MeetsBit, MovesBytes, MovesOn, is_pipe_at, joining}
@@ -33,7 +34,6 @@ use Rattle.pipe_job.specs.declared.step.Wait.{Wait}
 use Rattle.pipe_job.specs.declared.step.Wait.TheVariants.{Room, Waiting}
 use Rattle.pipe_job.specs.declared.step.Step.{Step}
 use Rattle.pipe_job.specs.declared.step.Step.TheVariants as step
-use Rattle.pipe_job.proofs.Calls.{later_both}
 use Rattle.pipe_job.proofs.Bytes.{whole_received, whole_sent}
 use Rattle.pipe_job.proofs.Frames.{same_fit}
 use Rattle.pipe_job.proofs.Moved.{joining_none}
@@ -291,7 +291,7 @@ module _ {I : Type 0} (files : I → ℕ → Bool) (view : I → IoView) (tells 
       keep = λ c n t other fits apart waits. second.stays.keep c n t other (first.others.keep c n other fits apart)
           (first.apart c n other fits apart) (first.stays.keep c n t other fits apart waits);
     };
-    later = later_both (view old.handling.io) (view then.handling.io) (view new.handling.io) first.later second.later;
+    later = later-then (view old.handling.io) (view then.handling.io) (view new.handling.io) first.later second.later;
     ends = ends_since was.pipe cancels (HasOwn (view old.handling.io).world was) (HasOwn
         (view then.handling.io).world mid) old then new next
         first.later (own_since was mid old then first.moves)

@@ -81,6 +81,3 @@ pub fn park<I: NonBlock, P: Ledger, D: Ledger, T: Wait + Clock>(
     let ran = turn_parked(exec, &parked, now);
     (parked, ran)
 }
-
-#[cfg(test)]
-mod tests;

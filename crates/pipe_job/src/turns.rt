@@ -90,6 +90,3 @@ pub fn abandon_all<I: NonBlock>(exec: &mut PipeExec<I>)
 {
     while abandon_first(exec) {}
 }
-
-#[cfg(test)]
-mod tests;

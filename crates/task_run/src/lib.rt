@@ -5,6 +5,3 @@ mod jobs;
 mod output;
 
 pub use jobs::run_text;
-
-#[cfg(test)]
-mod tests;

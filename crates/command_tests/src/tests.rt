@@ -1,0 +1,4 @@
+// What commands write.
+mod faults;
+mod framing;
+mod helps;

@@ -1,0 +1,10 @@
+use Rattle.core_exec.specs.Exec.{IsSound, Stands}
+use Rattle.pipe_job.specs.PipeJob.{ApartPipes, FitsPipe, cancels_of, polls_of}
+use Rattle.job_tests.proofs.tests.parks.turn_of.Given as goal
+
+-- What each park keeps.
+abbrev pub invariant-loop : goal.invariant-loop
+invariant-loop g l = record {
+  stands : Stands polls_of cancels_of l.exec;
+  sound : IsSound FitsPipe ApartPipes l.exec;
+}
