@@ -1,12 +1,12 @@
 -- An operation that is dropped and gone leaves what one leaves that is gone.
 use Rattle.std.proofs.Common.{◌≡◌, ◌∙◌, ℕ, zero, suc, Bool, cond, not, List, [], ◌∷◌, length, refl, ap, if◌then◌else◌}
 use Rattle.std.specs.Prelude.{◌&&◌, filter}
-use Rattle.ring_core.specs.Lists.{amended, numbers_where, numbers_below}
-use Rattle.ring_core.specs.Ledger.{Ledger, Operation, Gone, is_holding}
-use Rattle.ring_core.specs.Queue.{at_place, with_op, with_gone, is_unheld, became_unheld}
-use Rattle.ring_core.specs.Step.{with_drop}
-use Rattle.ring_core.proofs.Where.{where-kept}
-use Rattle.ring_core.proofs.Holders.{unheld-at}
+use Rattle.machine.specs.Lists.{amended, numbers_where, numbers_below}
+use Rattle.machine.specs.Ledger.{Ledger, Operation, Gone, is_holding}
+use Rattle.machine.specs.Queue.{at_place, with_op, with_gone, is_unheld, became_unheld}
+use Rattle.machine.specs.Step.{with_drop}
+use Rattle.machine.proofs.Where.{where-kept}
+use Rattle.machine.proofs.Holders.{unheld-at}
 use Rattle.driver_core.specs.Holds.{is_seen}
 use Rattle.driver_core.proofs.Seen.{SameSeen}
 

@@ -3,13 +3,13 @@ use Rattle.std.proofs.Common.{◌≡◌, ◌≢◌, ◌∙◌, inl, inr, ℕ, �
 use Rattle.std.specs.Ordering.{nat_cmp}
 use Rattle.std.specs.FinMap.{FinMap, get, empty}
 use Rattle.handle_core.specs.Table.{Table, holders_at}
-use Rattle.ring_core.specs.Lists.{has_number}
-use Rattle.ring_core.specs.Ranks.{one_if}
-use Rattle.ring_core.specs.Request.{named}
-use Rattle.ring_core.specs.declared.request.Outcome.{Outcome}
-use Rattle.ring_core.specs.Ledger.{with_made}
-use Rattle.ring_core.proofs.Numbers.{same-or-not}
-use Rattle.ring_core.proofs.Leaving.{named-ascends, has-last}
+use Rattle.machine.specs.Lists.{has_number}
+use Rattle.machine.specs.Lists.{one_if}
+use Rattle.machine.specs.Request.{named}
+use Rattle.machine.specs.declared.request.Outcome.{Outcome}
+use Rattle.machine.specs.Ledger.{with_made}
+use Rattle.machine.proofs.Numbers.{same-or-not}
+use Rattle.machine.proofs.Leaving.{named-ascends, has-last}
 use Rattle.op_slots.specs.declared.lifecycle.Lifecycle.{Lifecycle}
 use Rattle.op_slots.specs.declared.lifecycle.Lifecycle.TheVariants.{Submitted, Waiting, Ignored, Completed}
 use Rattle.driver_core.specs.declared.slot.Slot.{Slot}

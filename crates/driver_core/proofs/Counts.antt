@@ -2,10 +2,10 @@
 use Rattle.std.proofs.Common.{◌≡◌, ℕ, zero, suc, ◌+◌, ◌≤◌, Bool, true, false, cond, List, [], ◌∷◌, ◌++◌, length, Some, refl, sym, ◌∙◌, ap}
 use Rattle.std.proofs.Common.{arith, add_assoc}
 use Rattle.std.specs.Prelude.{slice_get, not, if◌then◌else◌}
-use Rattle.ring_core.specs.Lists.{amended, numbers_where}
-use Rattle.ring_core.specs.Ledger.{Operation, is_live, is_owned}
-use Rattle.ring_core.specs.Ranks.{one_if}
-use Rattle.ring_core.proofs.Numbers.{and-left}
+use Rattle.machine.specs.Lists.{amended, numbers_where}
+use Rattle.machine.specs.Ledger.{Operation, is_live, is_owned}
+use Rattle.machine.specs.Lists.{one_if}
+use Rattle.machine.proofs.Numbers.{and-left}
 
 -- The operations that pass, counted.
 abbrev passing : (Operation → Bool) → List Operation → ℕ

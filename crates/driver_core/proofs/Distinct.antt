@@ -4,11 +4,11 @@ use Rattle.std.proofs.Common.{refl, sym, ap, arith}
 use Rattle.std.specs.Prelude.{◌||◌, ◌==◌}
 use Rattle.std.proofs.Math.Bool.{or_assoc, or-false}
 use Rattle.std.proofs.lemmas.Bool.Decides.{eqb_tells}
-use Rattle.ring_core.specs.Lists.{has_number}
-use Rattle.ring_core.specs.Ranks.{one_if}
-use Rattle.ring_core.specs.Ledger.{with_made}
-use Rattle.ring_core.proofs.Numbers.{same-or-not, equal-other}
-use Rattle.ring_core.proofs.Leaving.{Ascends, ascends-not, has-first, has-other}
+use Rattle.machine.specs.Lists.{has_number}
+use Rattle.machine.specs.Lists.{one_if}
+use Rattle.machine.specs.Ledger.{with_made}
+use Rattle.machine.proofs.Numbers.{same-or-not, equal-other}
+use Rattle.machine.proofs.Leaving.{Ascends, ascends-not, has-first, has-other}
 
 -- No number stands twice.
 abbrev pub Distinct : List ℕ → Type 0

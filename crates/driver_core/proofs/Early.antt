@@ -2,15 +2,15 @@
 use Rattle.std.proofs.Common.{◌≡◌, inl, inr, ℕ, ◌≤◌, Bool, true, false, List, [], ◌∷◌, length, map, Some, refl, sym, Option, None}
 use Rattle.std.proofs.Common.{◌∙◌, ap, arith, subst, if◌then◌else◌}
 use Rattle.std.specs.Prelude.{slice_get, ◌==◌}
-use Rattle.ring_core.specs.Lists.{amended, passes}
-use Rattle.ring_core.specs.Ledger.{Ledger, Operation, Place, InQueue, InFlight, InDone, Reaped, Gone, Queued, Req, Cancel}
-use Rattle.ring_core.specs.Queue.{at_place, canceled_at, with_take, with_cancel, take_one, leader_behind, take_behind, take_each, take_all, push}
-use Rattle.ring_core.specs.Queue.{push_each}
-use Rattle.ring_core.specs.Closes.{made_at}
-use Rattle.ring_core.proofs.Amended.{changed-cases, there-before}
-use Rattle.ring_core.proofs.Making.{From, OpsFrom, ops_from-then, ops_from-same}
-use Rattle.ring_core.proofs.Taking.{in_queue, queue_mark, Listed}
-use Rattle.ring_core.proofs.Lawful.{queued-there}
+use Rattle.machine.specs.Lists.{amended, passes}
+use Rattle.machine.specs.Ledger.{Ledger, Operation, Place, InQueue, InFlight, InDone, Reaped, Gone, Queued, Req, Cancel}
+use Rattle.machine.specs.Queue.{at_place, canceled_at, with_take, with_cancel, take_one, leader_behind, take_behind, take_each, take_all, push}
+use Rattle.machine.specs.Queue.{push_each}
+use Rattle.machine.specs.Closes.{made_at}
+use Rattle.machine.proofs.Amended.{changed-cases, there-before}
+use Rattle.machine.proofs.Making.{From, OpsFrom, ops_from-then, ops_from-same}
+use Rattle.machine.proofs.Taking.{in_queue, queue_mark, Listed}
+use Rattle.machine.proofs.Lawful.{queued-there}
 use Rattle.driver_core.specs.Slots.{is_early}
 use Rattle.driver_core.proofs.Seen.{AreEarly, early-live, early-take_one, early-first, early-push}
 

@@ -6,20 +6,20 @@ use Rattle.std.proofs.lemmas.Bool.{lt-leb}
 use Rattle.std.proofs.lemmas.Option.{slice_get_within}
 use Rattle.rent_buf.specs.Buffer.{Buffer}
 use Rattle.rent_buf.specs.Parts.{Parts}
-use Rattle.ring_core.specs.declared.ledger.Event.TheVariants.{Submit}
-use Rattle.ring_core.specs.declared.request.Request.{Request}
-use Rattle.ring_core.specs.Ledger.{Ledger, Place, InQueue, InFlight, InDone, Reaped, Gone, is_kept, is_marked, members, empty}
-use Rattle.ring_core.specs.Ledger.{group_under}
-use Rattle.ring_core.specs.Refusal.{has_no_canceller}
-use Rattle.ring_core.specs.Lists.{amended, has_number, passes}
-use Rattle.ring_core.specs.Step.{new_canceller_step, new_handle_step, cancel_all_step}
-use Rattle.ring_core.proofs.Amended.{get-amended-other}
-use Rattle.ring_core.proofs.Grouping.{op_groups, GroupsStay, groups-cancel_all}
-use Rattle.ring_core.proofs.Members.{members-are}
-use Rattle.ring_core.proofs.Numbers.{same-or-not}
-use Rattle.ring_core.proofs.Owning.{members-marked, members-kept, members-left, members-more, members-beside, marks-more}
-use Rattle.ring_core.proofs.Staying.{Groups, groups_of}
-use Rattle.ring_core.proofs.Stepping.{OwnedAt}
+use Rattle.machine.specs.declared.ledger.Event.TheVariants.{Submit}
+use Rattle.machine.specs.declared.request.Request.{Request}
+use Rattle.machine.specs.Ledger.{Ledger, Place, InQueue, InFlight, InDone, Reaped, Gone, is_kept, is_marked, members, empty}
+use Rattle.machine.specs.Ledger.{group_under}
+use Rattle.machine.specs.Refusal.{has_no_canceller}
+use Rattle.machine.specs.Lists.{amended, has_number, passes}
+use Rattle.machine.specs.Step.{new_canceller_step, new_handle_step, cancel_all_step}
+use Rattle.machine.proofs.Amended.{get-amended-other}
+use Rattle.machine.proofs.Grouping.{op_groups, GroupsStay, groups-cancel_all}
+use Rattle.machine.proofs.Members.{members-are}
+use Rattle.machine.proofs.Numbers.{same-or-not}
+use Rattle.machine.proofs.Owning.{members-marked, members-kept, members-left, members-more, members-beside, marks-more}
+use Rattle.machine.proofs.Staying.{Groups, groups_of}
+use Rattle.machine.proofs.Stepping.{OwnedAt}
 use Rattle.cancel_core.specs.Group.{fresh, canceled, group_at, without}
 use Rattle.driver_core.specs.declared.op.Op.{Op}
 use Rattle.driver_core.specs.declared.slot.Slot.{Slot}

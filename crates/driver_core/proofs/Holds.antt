@@ -8,10 +8,10 @@ use Rattle.std.specs.FinMap.{get, len}
 use Rattle.handle_core.specs.declared.table.TheConstants.{MAX_HOLDS}
 use Rattle.handle_core.specs.declared.table.Holders.{Holders}
 use Rattle.handle_core.specs.Table.{Table, IsHeld, holders_at, with_holders, with_operation, without_operation, nobody, handed}
-use Rattle.ring_core.specs.Lists.{has_number}
-use Rattle.ring_core.specs.Ranks.{one_if}
-use Rattle.ring_core.proofs.Numbers.{same-or-not, equal-other}
-use Rattle.ring_core.proofs.Leaving.{has-first, has-other}
+use Rattle.machine.specs.Lists.{has_number}
+use Rattle.machine.specs.Lists.{one_if}
+use Rattle.machine.proofs.Numbers.{same-or-not, equal-other}
+use Rattle.machine.proofs.Leaving.{has-first, has-other}
 use Rattle.driver_core.proofs.Distinct.{Distinct, first-other, equal-is}
 use Rattle.driver_core.specs.Holds.{is_nobody, settled, settle_if, left_holders, with_ops, without_ops, front_if, unheld_by, CanJoin}
 use Rattle.driver_core.specs.Holds.{CanLeave}

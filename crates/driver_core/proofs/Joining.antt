@@ -9,8 +9,8 @@ use Rattle.std.specs.Cmp.{nat_eq_equiv}
 use Rattle.std.proofs.lemmas.List.{get_or-set_same, get_or-set_other}
 use Rattle.std.proofs.lemmas.Map.Lookups.{exact_unsigned}
 use Rattle.std.proofs.lemmas.Map.Views.{Contains-from_any, list_any-from_Contains, any-filter_same}
-use Rattle.ring_core.specs.Lists.{has_number}
-use Rattle.ring_core.proofs.Numbers.{same-or-not}
+use Rattle.machine.specs.Lists.{has_number}
+use Rattle.machine.proofs.Numbers.{same-or-not}
 use Rattle.cancel_core.specs.Group.{Group, fresh, group_at, with_members, joined, without}
 
 -- A test that comes twice is one.

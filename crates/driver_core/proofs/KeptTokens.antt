@@ -1,9 +1,9 @@
 -- Which tokens are kept by number after each call of a driver.
 use Rattle.std.proofs.Common.{◌≡◌, ◌≢◌, ◌≤◌, ℕ, zero, suc, List, [], ◌∷◌, ◌++◌, length, Option, None, Some, ◌⊎◌, inl, inr, refl, sym, ◌∙◌}
 use Rattle.std.proofs.Common.{ap, subst, arith}
-use Rattle.ring_core.specs.Lists.{amended}
+use Rattle.machine.specs.Lists.{amended}
 use Rattle.driver_core.specs.declared.op.Op.{Op}
-use Rattle.ring_core.proofs.Numbers.{same-or-not}
+use Rattle.machine.proofs.Numbers.{same-or-not}
 use Rattle.driver_core.specs.Op.{Holds, number_of, KeepsTokens, DropsToken, AddsToken}
 use Rattle.driver_core.specs.Ops.{Ops}
 use Rattle.driver_core.specs.Tokens.{token_at, AreHeld}

@@ -8,7 +8,7 @@ use Rattle.std.specs.FinMap.{FinMap, get, insert, remove, len, get-empty, empty_
 use Rattle.std.specs.FinMap.{same_map}
 use Rattle.std.specs.FinMap.{nat_cmp-IsAntisymmetric}
 use Rattle.op_slots.proofs.Places.{same, differ}
-use Rattle.ring_core.proofs.Numbers.{same-or-not}
+use Rattle.machine.proofs.Numbers.{same-or-not}
 
 -- What was written at a key is there, and all else stays.
 pub put-same : {X : Type 0} (m : FinMap nat_cmp X) (k : ℕ) (v : X) → get (insert m k v) k ≡ Some v

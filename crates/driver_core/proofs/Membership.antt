@@ -6,7 +6,7 @@ use Rattle.std.proofs.lemmas.List.{get_or-set_same, get_or-set_other}
 use Rattle.std.proofs.lemmas.List.Elements.{All-contains_itself, All-weaker}
 use Rattle.std.specs.FinMap as map
 use Rattle.op_slots.proofs.Places.{map-absent}
-use Rattle.ring_core.proofs.Numbers.{same-or-not}
+use Rattle.machine.proofs.Numbers.{same-or-not}
 use Rattle.cancel_core.specs.Group.{Group, fresh, canceled, group_at, with_members, joined, without}
 use Rattle.driver_core.specs.declared.members.places.Place.{Place}
 use Rattle.driver_core.specs.Members.{Membership, none, key_at, group_over, IsMember, IsUnderNone, HaveKeys, ArePlaced}

@@ -6,10 +6,10 @@ use Rattle.op_slots.specs.Lifecycle.{IsIgnored, after_complete}
 use Rattle.op_slots.specs.declared.lifecycle.AfterComplete.TheVariants.{Kept, Wake, Free}
 use Rattle.op_slots.specs.declared.lifecycle.Lifecycle.{Lifecycle}
 use Rattle.op_slots.specs.declared.lifecycle.Lifecycle.TheVariants.{Submitted, Waiting, Ignored, Completed}
-use Rattle.ring_core.specs.declared.request.Outcome.{Outcome}
+use Rattle.machine.specs.declared.request.Outcome.{Outcome}
 use Rattle.driver_core.specs.declared.slot.Slot.{Slot}
 use Rattle.driver_core.specs.Slot.{number_at, number_if, serial_of, is_owned_life, KeepsNumbers}
-use Rattle.ring_core.proofs.Numbers.{same-or-not}
+use Rattle.machine.proofs.Numbers.{same-or-not}
 use Rattle.driver_core.proofs.Maps.{put-same, put-other, gone-same, gone-other, remove-put}
 
 -- Who a slot belongs to, by its life.

@@ -3,10 +3,10 @@ use Rattle.std.proofs.Common.{◌≡◌, ℕ, Bool, true, false, Option, Some, N
 use Rattle.std.specs.Prelude.{◌&&◌, not}
 use Rattle.rent_buf.specs.Buffer.{Buffer}
 use Rattle.op_slots.specs.declared.lifecycle.Lifecycle.TheVariants.{Completed}
-use Rattle.ring_core.specs.declared.request.Outcome.{Outcome}
-use Rattle.ring_core.specs.Ledger.{Ledger, Place, InQueue, InFlight, InDone, Reaped, Gone, is_kept, is_owned}
-use Rattle.ring_core.specs.Request.{named, plain_request}
-use Rattle.ring_core.proofs.Requests.{named-holding, named-mapped}
+use Rattle.machine.specs.declared.request.Outcome.{Outcome}
+use Rattle.machine.specs.Ledger.{Ledger, Place, InQueue, InFlight, InDone, Reaped, Gone, is_kept, is_owned}
+use Rattle.machine.specs.Request.{named, plain_request}
+use Rattle.machine.proofs.Requests.{named-holding, named-mapped}
 use Rattle.driver_core.specs.declared.slot.Slot.{Slot}
 use Rattle.driver_core.specs.Slot.{is_owned_life}
 use Rattle.driver_core.specs.Slots.{SlotFor, waiting, life_of, owned_life}

@@ -3,8 +3,8 @@ use Rattle.std.proofs.Common.{◌≡◌, ◌≢◌, ◌∙◌, inl, inr, ℕ, �
 use Rattle.std.specs.Prelude.{is_some}
 use Rattle.std.specs.Ordering.{nat_cmp}
 use Rattle.std.specs.FinMap.{FinMap, get, insert, remove, empty, get-empty, len-empty}
-use Rattle.ring_core.specs.Ranks.{one_if}
-use Rattle.ring_core.proofs.Numbers.{same-or-not, some-of, none-of}
+use Rattle.machine.specs.Lists.{one_if}
+use Rattle.machine.proofs.Numbers.{same-or-not, some-of, none-of}
 use Rattle.driver_core.specs.declared.slot.Slot.{Slot}
 use Rattle.driver_core.specs.Holds.{Number}
 use Rattle.driver_core.proofs.Maps.{put-same, put-other, gone-same, gone-other, len-new, len-gone, len-some}

@@ -6,9 +6,9 @@ use Rattle.std.specs.FinMap as map
 use Rattle.std.specs.Ordering.{match_ordering}
 use Rattle.std.proofs.lemmas.Bool.{false_from_ne_true}
 use Rattle.std.proofs.lemmas.Map.Lookups.{exact_unsigned}
-use Rattle.ring_core.specs.Lists.{has_number}
-use Rattle.ring_core.proofs.Leaving.{has-first, has-other}
-use Rattle.ring_core.proofs.Numbers.{same-or-not, equal-other}
+use Rattle.machine.specs.Lists.{has_number}
+use Rattle.machine.proofs.Leaving.{has-first, has-other}
+use Rattle.machine.proofs.Numbers.{same-or-not, equal-other}
 use Rattle.cancel_core.specs.Group.{Group, group_at, with_members, joined, without}
 use Rattle.driver_core.specs.declared.members.places.Place.{Place}
 use Rattle.driver_core.specs.declared.op.Op.{Op}

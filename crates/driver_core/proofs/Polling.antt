@@ -12,8 +12,8 @@ use Rattle.op_slots.specs.declared.lifecycle.AfterPoll.TheVariants.{Pending, Tak
 use Rattle.op_slots.specs.declared.lifecycle.Lifecycle.{Lifecycle}
 use Rattle.op_slots.specs.declared.lifecycle.Lifecycle.TheVariants.{Submitted, Waiting, Ignored, Completed}
 use Rattle.op_slots.specs.Lifecycle.{after_poll, polled, after_drop, dropped, IsCompleted}
-use Rattle.ring_core.specs.declared.request.Outcome.{Outcome}
-use Rattle.ring_core.specs.declared.request.Request.{Request}
+use Rattle.machine.specs.declared.request.Outcome.{Outcome}
+use Rattle.machine.specs.declared.request.Request.{Request}
 use Rattle.driver_core.specs.declared.op.Done.{Done}
 use Rattle.driver_core.specs.declared.operations.calls.CallAnswer.{CallAnswer}
 use Rattle.driver_core.specs.declared.slot.Slot.{Slot}

@@ -5,9 +5,9 @@ use Rattle.std.specs.FinMap as finite
 use Rattle.std.specs.Cmp.{nat_cmp_is}
 use Rattle.std.specs.Ordering.{match_ordering}
 use Rattle.std.proofs.lemmas.List.{map-append, length-map, get_or-set_same, get_or-set_other}
-use Rattle.ring_core.specs.Lists.{amended, has_number, passes}
-use Rattle.ring_core.proofs.Leaving.{has-first, has-later}
-use Rattle.ring_core.proofs.Numbers.{same-or-not}
+use Rattle.machine.specs.Lists.{amended, has_number, passes}
+use Rattle.machine.proofs.Leaving.{has-first, has-later}
+use Rattle.machine.proofs.Numbers.{same-or-not}
 use Rattle.cancel_core.specs.Group.{Group, fresh, canceled, group_at, with_members, joined, without}
 use Rattle.driver_core.specs.declared.members.places.Place.{Place}
 use Rattle.driver_core.specs.Groups.{is_canceled}

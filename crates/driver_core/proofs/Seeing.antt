@@ -5,24 +5,24 @@ use Rattle.std.proofs.Common.{Option, Some, None, refl, sym, ap, subst, arith, a
 use Rattle.std.specs.Prelude.{◌&&◌, nat_lt, slice_get, filter, max, option_to_list}
 use Rattle.std.proofs.lemmas.Bool.Decides.{nat_tests}
 use Rattle.handle_core.specs.Table.{Table, holders_at, with_holders, without_operation, handed}
-use Rattle.ring_core.specs.Lists.{has_number, numbers_where}
-use Rattle.ring_core.specs.Ranks.{one_if}
-use Rattle.ring_core.specs.Request.{named}
-use Rattle.ring_core.specs.Ledger.{Ledger, Operation, Place, InQueue, InFlight, InDone, Reaped, Gone, is_live}
-use Rattle.ring_core.specs.Ledger.{is_holding, holding_ops, holds}
-use Rattle.ring_core.specs.Ledger.{user_holds, with_made}
-use Rattle.ring_core.specs.Queue.{at_place, with_gone, is_unheld, became_unheld}
-use Rattle.ring_core.specs.Step.{with_user}
-use Rattle.ring_core.specs.Closes.{AreKnown, MadeAlone, made_at}
-use Rattle.ring_core.proofs.Alone.{fails-by}
-use Rattle.ring_core.proofs.Owning.{same-tests}
-use Rattle.ring_core.proofs.Numbers.{same-or-not, and-left, and-right}
-use Rattle.ring_core.proofs.Amended.{changed-cases, there-before}
-use Rattle.ring_core.proofs.Where.{none-where}
-use Rattle.ring_core.proofs.Holders.{is-unheld, held-by_user, unheld-at}
-use Rattle.ring_core.proofs.Users.{user-with_user, user-with_user-other}
-use Rattle.ring_core.proofs.Closing.{known-with_user}
-use Rattle.ring_core.proofs.Leaving.{has-first, has-other, holds-named, holds-either, holds-ascends, named-ascends, became-held}
+use Rattle.machine.specs.Lists.{has_number, numbers_where}
+use Rattle.machine.specs.Lists.{one_if}
+use Rattle.machine.specs.Request.{named}
+use Rattle.machine.specs.Ledger.{Ledger, Operation, Place, InQueue, InFlight, InDone, Reaped, Gone, is_live}
+use Rattle.machine.specs.Ledger.{is_holding, holding_ops, holds}
+use Rattle.machine.specs.Ledger.{user_holds, with_made}
+use Rattle.machine.specs.Queue.{at_place, with_gone, is_unheld, became_unheld}
+use Rattle.machine.specs.Step.{with_user}
+use Rattle.machine.specs.Closes.{AreKnown, MadeAlone, made_at}
+use Rattle.machine.proofs.Alone.{fails-by}
+use Rattle.machine.proofs.Owning.{same-tests}
+use Rattle.machine.proofs.Numbers.{same-or-not, and-left, and-right}
+use Rattle.machine.proofs.Amended.{changed-cases, there-before}
+use Rattle.machine.proofs.Where.{none-where}
+use Rattle.machine.proofs.Holders.{is-unheld, held-by_user, unheld-at}
+use Rattle.machine.proofs.Users.{user-with_user, user-with_user-other}
+use Rattle.machine.proofs.Closing.{known-with_user}
+use Rattle.machine.proofs.Leaving.{has-first, has-other, holds-named, holds-either, holds-ascends, named-ascends, became-held}
 use Rattle.driver_core.specs.Slots.{life_of, life_at}
 use Rattle.driver_core.specs.Holds.{made_life, seen, is_seen, seen_ops, is_nobody, settled, left_holders, without_ops, unheld_by, front_if}
 use Rattle.driver_core.specs.Holds.{HoldersStand}

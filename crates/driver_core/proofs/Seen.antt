@@ -2,16 +2,16 @@
 use Rattle.std.proofs.Common.{◌≡◌, ◌∙◌, inl, inr, ℕ, zero, suc, Bool, true, false, List, [], ◌∷◌, ◌++◌, length, map, Option, Some, None}
 use Rattle.std.proofs.Common.{refl, sym, ap, if◌then◌else◌}
 use Rattle.std.specs.Prelude.{slice_get, ◌&&◌, ◌==◌}
-use Rattle.ring_core.specs.Lists.{has_number, amended}
-use Rattle.ring_core.specs.Request.{named}
-use Rattle.ring_core.specs.declared.request.Outcome.{Outcome}
-use Rattle.ring_core.specs.Ledger.{Ledger, Operation, Place, InQueue, InFlight, InDone, Reaped, Gone, Queued, Req, Cancel}
-use Rattle.ring_core.specs.Ledger.{is_kept, is_live, user_holds, with_made}
-use Rattle.ring_core.specs.Queue.{with_op, canceled_at, with_take, with_cancel, take_one, leader_behind, take_behind, take_each}
-use Rattle.ring_core.specs.Queue.{take_all, make_room, push, push_each}
-use Rattle.ring_core.proofs.Amended.{changed-cases, joined-cases, there-before}
-use Rattle.ring_core.proofs.Taken.{queue-take_each}
-use Rattle.ring_core.proofs.Where.{where-kept}
+use Rattle.machine.specs.Lists.{has_number, amended}
+use Rattle.machine.specs.Request.{named}
+use Rattle.machine.specs.declared.request.Outcome.{Outcome}
+use Rattle.machine.specs.Ledger.{Ledger, Operation, Place, InQueue, InFlight, InDone, Reaped, Gone, Queued, Req, Cancel}
+use Rattle.machine.specs.Ledger.{is_kept, is_live, user_holds, with_made}
+use Rattle.machine.specs.Queue.{with_op, canceled_at, with_take, with_cancel, take_one, leader_behind, take_behind, take_each}
+use Rattle.machine.specs.Queue.{take_all, make_room, push, push_each}
+use Rattle.machine.proofs.Amended.{changed-cases, joined-cases, there-before}
+use Rattle.machine.proofs.Taken.{queue-take_each}
+use Rattle.machine.proofs.Where.{where-kept}
 use Rattle.driver_core.specs.Slots.{waiting, life_of, life_at, is_early}
 use Rattle.driver_core.specs.Holds.{made_life, seen, is_seen, seen_ops}
 

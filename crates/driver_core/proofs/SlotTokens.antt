@@ -9,14 +9,14 @@ use Rattle.op_slots.specs.declared.lifecycle.AfterDrop.TheVariants.{Left, Free}
 use Rattle.op_slots.specs.declared.lifecycle.Lifecycle.{Lifecycle}
 use Rattle.op_slots.specs.declared.lifecycle.Lifecycle.TheVariants.{Submitted, Waiting, Ignored, Completed}
 use Rattle.op_slots.specs.Lifecycle.{polled, IsIgnored}
-use Rattle.ring_core.specs.declared.request.Outcome.{Outcome}
+use Rattle.machine.specs.declared.request.Outcome.{Outcome}
 use Rattle.driver_core.specs.declared.op.Done.{Done}
 use Rattle.driver_core.specs.declared.op.Op.{Op}
 use Rattle.driver_core.specs.declared.slot.Slot.{Slot}
 use Rattle.driver_core.specs.Slot.{with_life, number_at, number_if, serial_of, is_owned_life, PollsAt, EndsSlot, DropsAt, KeepsNumbers}
 use Rattle.driver_core.specs.Op.{number_of}
 use Rattle.driver_core.specs.Ops.{AreNumbered}
-use Rattle.ring_core.proofs.Numbers.{same-or-not}
+use Rattle.machine.proofs.Numbers.{same-or-not}
 use Rattle.driver_core.proofs.Lists.{some}
 use Rattle.driver_core.proofs.Maps.{put-same, put-other, gone-same, gone-other}
 use Rattle.driver_core.proofs.Numbers.{Owner, owner, owned-life, keeps-put}

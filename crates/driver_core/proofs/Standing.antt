@@ -6,15 +6,15 @@ use Rattle.std.proofs.Common.{length-append}
 use Rattle.std.proofs.lemmas.Bool.Decides.{nat_tests}
 use Rattle.handle_core.specs.declared.table.Holders.{Holders}
 use Rattle.handle_core.specs.Table.{Table, holders_at}
-use Rattle.ring_core.specs.Lists.{has_number}
-use Rattle.ring_core.specs.Ranks.{one_if}
-use Rattle.ring_core.specs.Request.{named}
-use Rattle.ring_core.specs.Ledger.{Ledger, Operation, Gone, is_live, holding_ops, user_holds, with_made}
-use Rattle.ring_core.specs.Queue.{with_op, at_place, with_gone, is_unheld}
-use Rattle.ring_core.specs.Step.{with_new_op}
-use Rattle.ring_core.proofs.Where.{where-kept, where-left, where-joined}
-use Rattle.ring_core.proofs.Holders.{unheld-count}
-use Rattle.ring_core.proofs.Leaving.{named-ascends}
+use Rattle.machine.specs.Lists.{has_number}
+use Rattle.machine.specs.Lists.{one_if}
+use Rattle.machine.specs.Request.{named}
+use Rattle.machine.specs.Ledger.{Ledger, Operation, Gone, is_live, holding_ops, user_holds, with_made}
+use Rattle.machine.specs.Queue.{with_op, at_place, with_gone, is_unheld}
+use Rattle.machine.specs.Step.{with_new_op}
+use Rattle.machine.proofs.Where.{where-kept, where-left, where-joined}
+use Rattle.machine.proofs.Holders.{unheld-count}
+use Rattle.machine.proofs.Leaving.{named-ascends}
 use Rattle.driver_core.specs.Slots.{life_at}
 use Rattle.driver_core.specs.Holds.{made_life, seen, is_seen, seen_ops, is_nobody, with_ops, without_ops}
 use Rattle.driver_core.specs.Holds.{HoldersStand}

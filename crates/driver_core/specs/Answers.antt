@@ -2,15 +2,15 @@
 use Rattle.std.specs.Prelude.{ℕ, ◌≡◌, Bool, List, length, Option, None, Some, slice_get}
 use Rattle.rent_buf.specs.Buffer.{Buffer}
 use Rattle.rent_buf.specs.Parts.{Parts}
-use Rattle.ring_core.specs.declared.request.Request.{Request}
-use Rattle.ring_core.specs.declared.ledger.Event.{Event}
-use Rattle.ring_core.specs.declared.ledger.Event.TheVariants.{Submit, Poll, NewCanceller, NewHandle, CancelAll}
-use Rattle.ring_core.specs.declared.ledger.Reply.{Reply}
-use Rattle.ring_core.specs.declared.ledger.Reply.TheVariants.{Submitted as Given, CanceledAtOnce, Pending as Waits, Handed}
-use Rattle.ring_core.specs.declared.ledger.Reply.TheVariants.{Canceller, CancelHandle, Cancels}
-use Rattle.ring_core.specs.Request.{plain_request, held_of, IsHolding}
-use Rattle.ring_core.specs.Ledger.{Ledger, Operation, group_under}
-use Rattle.ring_core.specs.Step.{step}
+use Rattle.machine.specs.declared.request.Request.{Request}
+use Rattle.machine.specs.declared.ledger.Event.{Event}
+use Rattle.machine.specs.declared.ledger.Event.TheVariants.{Submit, Poll, NewCanceller, NewHandle, CancelAll}
+use Rattle.machine.specs.declared.ledger.Reply.{Reply}
+use Rattle.machine.specs.declared.ledger.Reply.TheVariants.{Submitted as Given, CanceledAtOnce, Pending as Waits, Handed}
+use Rattle.machine.specs.declared.ledger.Reply.TheVariants.{Canceller, CancelHandle, Cancels}
+use Rattle.machine.specs.Request.{plain_request, held_of, IsHolding}
+use Rattle.machine.specs.Ledger.{Ledger, Operation, group_under}
+use Rattle.machine.specs.Step.{step}
 use Rattle.driver_core.specs.declared.op.Op.{Op as Token}
 use Rattle.driver_core.specs.declared.op.PollOp.{PollOp}
 use Rattle.driver_core.specs.declared.op.PollOp.TheVariants.{Pending, Ready}

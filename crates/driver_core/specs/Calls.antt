@@ -4,8 +4,8 @@ use Rattle.std.specs.Ordering.{nat_cmp}
 use Rattle.std.specs.FinMap as map
 use Rattle.rent_buf.specs.Buffer.{Buffer}
 use Rattle.rent_buf.specs.Parts.{Parts}
-use Rattle.ring_core.specs.declared.request.Request.{Request}
-use Rattle.ring_core.specs.Request.{plain_request}
+use Rattle.machine.specs.declared.request.Request.{Request}
+use Rattle.machine.specs.Request.{plain_request}
 use Rattle.driver_core.specs.declared.op.Op.{Op}
 use Rattle.driver_core.specs.declared.operations.calls.CallAnswer.{CallAnswer}
 use Rattle.driver_core.specs.declared.slot.Slot.{Slot}

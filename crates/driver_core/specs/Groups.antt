@@ -3,7 +3,7 @@ use Rattle.std.specs.Prelude.{ℕ, ◌≡◌, Bool, false, map as list_map, Opti
 use Rattle.std.specs.Ordering.{nat_cmp}
 use Rattle.std.specs.FinMap as map
 use Rattle.cancel_core.specs.Group.{group_at}
-use Rattle.ring_core.specs.Ledger.{Ledger, members}
+use Rattle.machine.specs.Ledger.{Ledger, members}
 use Rattle.driver_core.specs.declared.members.places.Place.{Place}
 use Rattle.driver_core.specs.declared.slot.Slot.{Slot}
 use Rattle.driver_core.specs.Members.{Membership, joins}

@@ -7,11 +7,11 @@ use Rattle.handle_core.specs.declared.table.Holders.{Holders}
 use Rattle.handle_core.specs.Table.{Table, IsHeld, holders_at, with_holders, without_handle, with_operation, without_operation}
 use Rattle.op_slots.specs.declared.lifecycle.Lifecycle.{Lifecycle}
 use Rattle.op_slots.specs.declared.lifecycle.Lifecycle.TheVariants.{Submitted, Waiting, Ignored, Completed}
-use Rattle.ring_core.specs.declared.request.Outcome.{Outcome}
-use Rattle.ring_core.specs.Lists.{has_number, numbers_where}
-use Rattle.ring_core.specs.Request.{named, makes}
-use Rattle.ring_core.specs.Effect.{made_by}
-use Rattle.ring_core.specs.Ledger.{Ledger, Operation, is_live, user_holds, with_made}
+use Rattle.machine.specs.declared.request.Outcome.{Outcome}
+use Rattle.machine.specs.Lists.{has_number, numbers_where}
+use Rattle.machine.specs.Request.{named, makes}
+use Rattle.machine.specs.Effect.{made_by}
+use Rattle.machine.specs.Ledger.{Ledger, Operation, is_live, user_holds, with_made}
 use Rattle.driver_core.specs.declared.slot.Slot.{Slot}
 use Rattle.driver_core.specs.Slot.{is_flying}
 use Rattle.driver_core.specs.Slots.{life_at}

@@ -6,9 +6,9 @@ use Rattle.rent_buf.specs.Parts.{Parts}
 use Rattle.op_slots.specs.declared.lifecycle.AfterDrop.{AfterDrop}
 use Rattle.op_slots.specs.declared.slab.TheConstants.{MAX_LIVE}
 use Rattle.op_slots.specs.declared.lifecycle.Lifecycle.TheVariants.{Submitted}
-use Rattle.ring_core.specs.declared.request.Request.{Request}
-use Rattle.ring_core.specs.Ledger.{Operation}
-use Rattle.ring_core.specs.Surroundings.{Surroundings}
+use Rattle.machine.specs.declared.request.Request.{Request}
+use Rattle.machine.specs.Ledger.{Operation}
+use Rattle.machine.specs.Surroundings.{Surroundings}
 use Rattle.driver_core.specs.declared.op.Op.{Op}
 use Rattle.driver_core.specs.declared.op.PollOp.{PollOp}
 use Rattle.driver_core.specs.declared.op.PollOp.TheVariants.{Pending, Ready}

@@ -6,10 +6,10 @@ use Rattle.rent_buf.specs.Buffer.{Buffer}
 use Rattle.op_slots.specs.declared.slab.TheConstants.{MAX_LIVE}
 use Rattle.op_slots.specs.declared.lifecycle.Lifecycle.{Lifecycle}
 use Rattle.op_slots.specs.declared.lifecycle.Lifecycle.TheVariants.{Submitted, Waiting, Ignored, Completed}
-use Rattle.ring_core.specs.declared.request.Outcome.{Outcome}
-use Rattle.ring_core.specs.Lists.{numbers_where}
-use Rattle.ring_core.specs.Request.{plain_request, held_of, IsHolding}
-use Rattle.ring_core.specs.Ledger.{Operation, Place, InQueue, InFlight, InDone, Reaped, Gone, is_live}
+use Rattle.machine.specs.declared.request.Outcome.{Outcome}
+use Rattle.machine.specs.Lists.{numbers_where}
+use Rattle.machine.specs.Request.{plain_request, held_of, IsHolding}
+use Rattle.machine.specs.Ledger.{Operation, Place, InQueue, InFlight, InDone, Reaped, Gone, is_live}
 use Rattle.driver_core.specs.declared.slot.Slot.{Slot}
 
 -- A slot's life while its operation isn't reaped: it waits with the task that polled last, if one did.

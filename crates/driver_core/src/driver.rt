@@ -1,6 +1,6 @@
 //! What every driver does: a turn, and a park, which is a turn that may wait for wakers of other threads in its middle.
 ghost use Rattle.std.specs.Prelude.{◌≡◌, ℕ, ◌+◌, [], Bool, length, Option, Some, None, IfNone};
-ghost use Rattle.ring_core.specs.Ledger.{Ledger};
+ghost use Rattle.machine.specs.Ledger.{Ledger};
 ghost use Rattle.wake_core.specs.WakerList.{IsInOrder};
 ghost use Rattle.wake_core.specs.Sleeping.{Sleeping};
 ghost use Rattle.wake_core.specs.declared.park.Woken.{Woken};

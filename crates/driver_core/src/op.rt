@@ -2,8 +2,8 @@
 ghost use Rattle.std.specs.Prelude.{◌≡◌};
 ghost use Rattle.driver_core.specs.Op.{number_of, key_of};
 
+use machine::{Outcome, Request};
 use rent_buf::{NumList, VecBuf};
-use ring_core::{Outcome, Request};
 use thiserror::Error;
 
 /// Names one operation of the driver that gave it. It can't be made, copied or dropped outside: `poll_op` spends it where

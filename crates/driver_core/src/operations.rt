@@ -7,8 +7,8 @@ ghost use Rattle.driver_core.specs.Operations.{Submits, PollsOp, DropsOp, offere
 ghost use Rattle.driver_core.specs.Ops.{AreNumbered};
 ghost use Rattle.driver_core.specs.Requests.{request_at, ReturnsRequest, KeepsRequests};
 ghost use Rattle.driver_core.specs.Holds.{named_in, dropped_in, made_in, is_maker, is_dropped};
-ghost use Rattle.ring_core.specs.Request.{listed};
-ghost use Rattle.ring_core.specs.Surroundings.{around};
+ghost use Rattle.machine.specs.Request.{listed};
+ghost use Rattle.machine.specs.Surroundings.{around};
 
 mod calls;
 
@@ -18,11 +18,11 @@ use crate::slot::{
     made_in, names_in, poll_at, store_in,
 };
 pub use calls::{CallAnswer, Calls};
+use machine::ledger::MOST_LIVE;
+use machine::{Completion, Names, Outcome, Payloads, Request};
 use op_slots::slab::MAX_LIVE;
 use op_slots::{AfterDrop, Lifecycle, Slab};
 use rent_buf::{ByteList, IoBufMut, OutOfMemory, VecBuf};
-use ring_core::ledger::MOST_LIVE;
-use ring_core::{Completion, Names, Outcome, Payloads, Request};
 use std::alloc::Global;
 use std::marker::Model;
 

@@ -2,17 +2,17 @@
 ghost use Rattle.std.specs.Prelude.{◌≡◌, false, IsSome, IfSome, IfNone, option_copied};
 ghost use Rattle.std.specs.FinMap as map;
 ghost use Rattle.op_slots.specs.Lifecycle.{IsCompleted, IsIgnored};
-ghost use Rattle.ring_core.specs.Request.{listed};
-ghost use Rattle.ring_core.specs.Surroundings.{around};
+ghost use Rattle.machine.specs.Request.{listed};
+ghost use Rattle.machine.specs.Surroundings.{around};
 ghost use Rattle.driver_core.specs.Holds.{named_in, dropped_in, made_in, is_maker, is_dropped};
 ghost use Rattle.driver_core.specs.Slot.{has_number, flies_in, fits_in, KeepsNumbers};
 ghost use Rattle.driver_core.specs.Slot.{PollsSlot, PollsAt, EndsSlot, DropsSlot, DropsAt, CompletesSlot, FillsSlot};
 ghost use Rattle.driver_core.specs.Requests.{surroundings_in, StaysHeld};
 
 use crate::op::Done;
+use machine::{Completion, Names, Outcome, Request};
 use op_slots::{AfterComplete, AfterDrop, AfterPoll, Lifecycle, Slab};
 use rent_buf::{IoBufMut, VecBuf};
-use ring_core::{Completion, Names, Outcome, Request};
 
 /// What a slot holds: an operation's number, its request with its buffer or its parts, and how far it is. (not in
 /// monoio, whose slot is a `Lifecycle` alone)

@@ -1,7 +1,7 @@
 //! What the user of a driver keeps by number: the tokens of its operations, its cancellers and its cancel handles.
 ghost use Rattle.std.specs.Prelude.{◌≡◌, ◌++◌, [], ◌∷◌, None, Some, MatchOption, OnOk, OnErr, IfOk};
 ghost use Rattle.std.specs.Prelude.{length, slice_get};
-ghost use Rattle.ring_core.specs.Lists.{amended};
+ghost use Rattle.machine.specs.Lists.{amended};
 ghost use Rattle.driver_core.specs.Tokens.{token_at, by_number, cancellers_in, handles_in, KeepsGroups, HasRoom, HasCancellerRoom};
 
 use crate::members::{CancelHandle, Canceller};

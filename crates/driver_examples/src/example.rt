@@ -1,6 +1,6 @@
 //! A program over any driver, with its theorem.
 ghost use Rattle.std.specs.Prelude.{IsTrue};
-ghost use Rattle.ring_core.specs.Ledger.{Ledger};
+ghost use Rattle.machine.specs.Ledger.{Ledger};
 
 use driver_core::Driver;
 

@@ -3,7 +3,7 @@ use Rattle.std.proofs.Common.{◌≡◌, ◌∙◌, ℕ, ◌+◌, List, [], ◌�
 use Rattle.std.specs.Prelude.{Bool, Option, Some, None, Result, Ok, Err, IfOk, MatchOption}
 use Rattle.std.proofs.lemmas.List.{append-nil}
 use Rattle.std.specs.List.{AllZip}
-use Rattle.ring_core.specs.declared.ledger.Event.{Event}
+use Rattle.machine.specs.declared.ledger.Event.{Event}
 use Rattle.event_text.specs.TextEvent.{AreExternal, StandsForExternal, stands_for}
 use Rattle.event_text.specs.TextEventReads.{event_of}
 use Rattle.event_text.specs.TextLines.{lines, AreEventsFor, IsFirstWrongFor, IsWrong, Standing}

@@ -8,8 +8,8 @@ use Rattle.std.proofs.lemmas.List.Elements.{All-append, All-cons}
 use Rattle.std.proofs.lemmas.List.Sums.{sum_by-append, sum_by-cons}
 use Rattle.rent_buf.specs.Parts.{Parts, IsParts, rooms_of}
 use Rattle.rent_buf.specs.Rent.{Rented}
-use Rattle.ring_core.specs.declared.ledger.Event.{Event}
-use Rattle.ring_core.proofs.Numbers.{some-of, none-of}
+use Rattle.machine.specs.declared.ledger.Event.{Event}
+use Rattle.machine.proofs.Numbers.{some-of, none-of}
 use Rattle.event_text.specs.TextEvent.{stands_for}
 use Rattle.event_text.specs.TextLines.{lines, IsFirstWrongFor, Standing}
 use Rattle.event_text.specs.TextReads.{words, number_of, bytes_of, part_onto, parts_end, counted}

@@ -1,7 +1,7 @@
 -- The lines of a text, and the first of them that stands for no event, or for none of a smaller set of events.
 use Rattle.std.specs.Prelude.{◌≡◌, ◌≢◌, ℕ, ◌+◌, ◌<◌, ◌≤◌, ◌==◌, List, [], ◌∷◌, ◌++◌, length, slice_index, if◌then◌else◌}
 use Rattle.std.specs.List.{AllZip}
-use Rattle.ring_core.specs.declared.ledger.Event.{Event}
+use Rattle.machine.specs.declared.ledger.Event.{Event}
 use Rattle.event_text.specs.TextEvent.{StandsFor}
 use Rattle.event_text.specs.declared.text.LinesError.{LinesError}
 use Rattle.event_text.specs.declared.text.LinesError.TheVariants.{BadLine, OutOfMemory}

@@ -8,8 +8,8 @@ use Rattle.rent_buf.specs.Buffer.{Buffer}
 use Rattle.rent_buf.specs.Parts.{Parts, rooms_of}
 use Rattle.rent_buf.specs.declared.kind.Kind.{Kind}
 use Rattle.rent_buf.specs.declared.kind.Kind.TheVariants.{Vector, Grown, Fixed}
-use Rattle.ring_core.specs.declared.world.HandleKind.{HandleKind}
-use Rattle.ring_core.specs.declared.world.HandleKind.TheVariants.{Stream, Datagram, File, Pipe, Listener}
+use Rattle.machine.specs.declared.world.HandleKind.{HandleKind}
+use Rattle.machine.specs.declared.world.HandleKind.TheVariants.{Stream, Datagram, File, Pipe, Listener}
 use Rattle.event_text.specs.TextEvent.{handle_kind_word}
 use Rattle.event_text.specs.TextLines.{onto_first}
 use Rattle.event_text.specs.TextReaders.{value_of, field}

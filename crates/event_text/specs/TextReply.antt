@@ -2,15 +2,15 @@
 use Rattle.std.specs.Prelude.{ℕ, List, [], ◌∷◌, length, codes, decimal, Option}
 use Rattle.rent_buf.specs.Held.{HeldBuf}
 use Rattle.rent_buf.specs.declared.held.Held.TheVariants.{One, Parts, Nothing}
-use Rattle.ring_core.specs.declared.ledger.Refusal.{Refusal}
-use Rattle.ring_core.specs.declared.ledger.Refusal.TheVariants.{NoOp, NoCanceller, NoHandle, Full, NotFlying, Waiting, BadOutcome}
-use Rattle.ring_core.specs.declared.ledger.Refusal.TheVariants.{BadHandleEvent}
-use Rattle.ring_core.specs.declared.ledger.Reply.{Reply}
-use Rattle.ring_core.specs.declared.ledger.Reply.TheVariants.{Handle, Fed, Ended, Released, Output, Messages, Submitted, Pending, Handed}
-use Rattle.ring_core.specs.declared.ledger.Reply.TheVariants.{Dropped, Asked, Turned, ExecutedOp, ExecutedClose, Refused}
-use Rattle.ring_core.specs.declared.ledger.Reply.TheVariants.{CanceledAtOnce, Canceller, CancelHandle, Cancels}
-use Rattle.ring_core.specs.declared.request.Outcome.{Outcome}
-use Rattle.ring_core.specs.declared.request.Outcome.TheVariants.{Count, Made, From, Fail}
+use Rattle.machine.specs.declared.ledger.Refusal.{Refusal}
+use Rattle.machine.specs.declared.ledger.Refusal.TheVariants.{NoOp, NoCanceller, NoHandle, Full, NotFlying, Waiting, BadOutcome}
+use Rattle.machine.specs.declared.ledger.Refusal.TheVariants.{BadHandleEvent}
+use Rattle.machine.specs.declared.ledger.Reply.{Reply}
+use Rattle.machine.specs.declared.ledger.Reply.TheVariants.{Handle, Fed, Ended, Released, Output, Messages, Submitted, Pending, Handed}
+use Rattle.machine.specs.declared.ledger.Reply.TheVariants.{Dropped, Asked, Turned, ExecutedOp, ExecutedClose, Refused}
+use Rattle.machine.specs.declared.ledger.Reply.TheVariants.{CanceledAtOnce, Canceller, CancelHandle, Cancels}
+use Rattle.machine.specs.declared.request.Outcome.{Outcome}
+use Rattle.machine.specs.declared.request.Outcome.TheVariants.{Count, Made, From, Fail}
 use Rattle.event_text.specs.TextRequest.{address_word, buffer_words, parts_words}
 use Rattle.event_text.specs.TextWords.{spaced, bytes_word, numbers_word}
 

@@ -16,8 +16,8 @@ use crate::word::{
     behind_next, behind_word, is_word, last_bytes, last_number, last_u16, last_u32, next_number,
     next_word, past_line, put, put_byte, put_counted, put_next_bytes, put_next_number,
 };
+use machine::{Event, HandleKind, Request, Told};
 use rent_buf::{BufSpec, OutOfMemory, PartsSpec};
-use ring_core::{Event, HandleKind, Request, Told};
 use std::alloc::Global;
 
 /// The event that a line stands for, if it stands for one: for any, or where `EXTERNAL` is true for an external one. `OutOfMemory` comes

@@ -7,8 +7,8 @@ ghost use Rattle.event_text.specs.TextWords.{numbers_word};
 use crate::buffer::put_held;
 use crate::word::number::put_number;
 use crate::word::{put, put_byte, put_counted, put_next_address, put_next_bytes, put_next_number};
+use machine::{Outcome, Refusal, Reply};
 use rent_buf::{HeldBuf, MessageList, OutOfMemory};
-use ring_core::{Outcome, Refusal, Reply};
 
 /// Appends the text of a reply, with no newline. If memory runs out, `out` is unchanged. (not in monoio)
 pub fn write_reply(reply: &Reply, out: &mut Vec<u8>) -> Result<(), OutOfMemory>

@@ -14,8 +14,8 @@ use crate::word::{
     behind_next, last_bytes, last_flag, last_number, last_u32, next_address, next_bytes_word,
     next_number, next_u32,
 };
+use machine::{Request, SharedFd};
 use rent_buf::{BufSpec, ByteList, OutOfMemory, PartsSpec};
-use ring_core::{Request, SharedFd};
 use std::alloc::Global;
 
 /// The request that the words that are left write.

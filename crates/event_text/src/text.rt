@@ -1,7 +1,7 @@
 //! The events that the lines of a text stand for.
 ghost use Rattle.std.specs.Prelude.{◌≡◌, List, ℕ, IfOk, IfErr};
 ghost use Rattle.std.specs.List.{AllZip};
-ghost use Rattle.ring_core.specs.declared.ledger.Event.{Event};
+ghost use Rattle.machine.specs.declared.ledger.Event.{Event};
 ghost use Rattle.event_text.specs.TextEvent.{AreExternal, IsEvent, StandsFor, StandsForExternal, event_text, stands_for};
 ghost use Rattle.event_text.specs.TextLines.{lines, AreEvents, AreEventsFor, IfBadLine, IfShort, IsFirstWrong};
 ghost use Rattle.event_text.specs.TextLines.{IsFirstWrongFor};
@@ -9,8 +9,8 @@ ghost use Rattle.event_text.specs.TextLines.{IsFirstWrongFor};
 use crate::event::event_of_line;
 use crate::valid::first_wrong;
 use crate::word::first_line;
+use machine::Event;
 use rent_buf::OutOfMemory;
-use ring_core::Event;
 use std::alloc::Global;
 use thiserror::Error;
 

@@ -4,8 +4,8 @@ use crate::calls::{Asked, Calls, Polled};
 use anyhow::Result;
 use handle_core::SharedFd;
 use held_op::HeldOp;
+use machine::{Outcome, Request};
 use rent_buf::{OutOfMemory, Rent};
-use ring_core::{Outcome, Request};
 use std::alloc::Global;
 use std::mem;
 

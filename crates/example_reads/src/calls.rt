@@ -2,8 +2,9 @@
 
 use anyhow::{Result, bail};
 use held_op::HeldOp;
+use machine::{HandleKind, MOST_HANDLES, Outcome, Request, SharedFd, Told};
 use rent_buf::{Rent, VecBuf};
-use ring_core::{HandleKind, MOST_HANDLES, MemRing, Outcome, Request, SharedFd, Told};
+use ring_core::MemRing;
 use uring_driver::{Driver as _, IoUringDriver, MOST_GIVEN, PollOp, Submitted, Turned};
 
 /// The completion driver over the ring in memory, with buffers of a stated total.

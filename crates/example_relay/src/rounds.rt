@@ -14,6 +14,9 @@ use wake_core::{Sleeper, WakeCell, Work, with_sleeper};
 // How many connections may be open.
 const MOST: u32 = 64;
 
+// How many bytes a receive asks for. A round moves as many in each direction at most, so more of them are fewer rounds.
+const PIECE: usize = 65_536;
+
 // The error of a port that is taken. (Linux: `EADDRINUSE`)
 const TAKEN: u16 = 98;
 
@@ -34,7 +37,7 @@ pub fn over<I: Sockets, F: Far<I>>(
     if !driver.user_holds(listener.number()) {
         bail!("the listener isn't held");
     }
-    match Relay::new(alloc, driver, listener, MOST, far) {
+    match Relay::with_room(alloc, driver, listener, MOST, PIECE, far) {
         Ok(relay) => Ok(relay),
         Err((why, _driver)) => Err(why.into()),
     }

@@ -2,9 +2,9 @@
 ghost use Rattle.op_job.specs.Runs.{SaysAny};
 
 use handle_core::SharedFd;
+use machine::{CANCELED, Outcome, Request};
 use op_job::{Follow, Next, OpEnd};
 use rent_buf::{OutOfMemory, Rent, VecBuf};
-use ring_core::{CANCELED, Outcome, Request};
 
 /// How many bytes a buffer takes.
 pub const SIZE: usize = 4096;

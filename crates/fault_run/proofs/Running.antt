@@ -2,7 +2,7 @@
 use Rattle.std.proofs.Common.{◌≡◌, ◌∙◌, ℕ, ◌+◌, ◌<◌, ◌≤◌, Bool, IsTrue, List, [], ◌∷◌, ◌++◌, length, refl, ap, sym, subst}
 use Rattle.std.proofs.Common.{arith, add-zero, add_assoc, append-nil, append_assoc, length-append}
 use Rattle.std.specs.List.{AllZip}
-use Rattle.ring_core.specs.Counts.{Rose}
+use Rattle.machine.specs.Counts.{Rose}
 use Rattle.rent_io.proofs.Runs.{rose_later}
 use Rattle.event_text.specs.TextLines.{lines}
 use Rattle.event_text.specs.TextLook.{line_end}

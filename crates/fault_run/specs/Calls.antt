@@ -9,9 +9,9 @@ use Rattle.handle_core.specs.declared.table.Released.{Released}
 use Rattle.handle_core.specs.declared.table.Released.TheVariants.{Held, Last}
 use Rattle.cancel_core.specs.Group.{group_at}
 use Rattle.op_slots.specs.declared.slab.TheConstants.{MAX_LIVE}
-use Rattle.ring_core.specs.declared.request.Request.{Request}
+use Rattle.machine.specs.declared.request.Request.{Request}
 use Rattle.ring_core.specs.Entry.{close_entry}
-use Rattle.ring_core.specs.Ledger.{Ledger}
+use Rattle.machine.specs.Ledger.{Ledger}
 use Rattle.ring_core.specs.FaultRing.{FaultView, faulty_ring}
 use Rattle.driver_core.specs.Answers.{IsUnder, CancellerFor}
 use Rattle.driver_core.specs.Groups.{is_under_canceled}

@@ -5,17 +5,17 @@ use Rattle.rent_buf.specs.Buffer.{Buffer}
 use Rattle.rent_buf.specs.Parts.{Parts}
 use Rattle.rent_buf.specs.declared.plain.Buf.{Buf}
 use Rattle.handle_core.specs.declared.table.Released.{Released as Outcome}
-use Rattle.ring_core.specs.Ledger.{Ledger}
-use Rattle.ring_core.specs.Lists.{amended}
-use Rattle.ring_core.specs.Request.{held_of, named, plain_request}
-use Rattle.ring_core.specs.declared.ledger.Event.{Event}
-use Rattle.ring_core.specs.declared.ledger.Event.TheVariants.{Give, Close, Submit, Poll, Drop, Cancel, NewCanceller, NewHandle, CancelAll, Turn}
-use Rattle.ring_core.specs.declared.ledger.Event.TheVariants.{Feed, FeedMessage, End, Look, Exec}
-use Rattle.ring_core.specs.declared.ledger.Refusal.{Refusal}
-use Rattle.ring_core.specs.declared.ledger.Refusal.TheVariants.{NoOp, NoCanceller, NoHandle, Full as IsFull}
-use Rattle.ring_core.specs.declared.ledger.Reply.TheVariants.{Handle, Released, Submitted as Given, CanceledAtOnce, Pending as Waits, Handed}
-use Rattle.ring_core.specs.declared.ledger.Reply.TheVariants.{Dropped, Asked, Canceller, CancelHandle, Cancels, Turned as Turns, Refused}
-use Rattle.ring_core.specs.declared.request.Request.{Request}
+use Rattle.machine.specs.Ledger.{Ledger}
+use Rattle.machine.specs.Lists.{amended}
+use Rattle.machine.specs.Request.{held_of, named, plain_request}
+use Rattle.machine.specs.declared.ledger.Event.{Event}
+use Rattle.machine.specs.declared.ledger.Event.TheVariants.{Give, Close, Submit, Poll, Drop, Cancel, NewCanceller, NewHandle, CancelAll, Turn}
+use Rattle.machine.specs.declared.ledger.Event.TheVariants.{Feed, FeedMessage, End, Look, Exec}
+use Rattle.machine.specs.declared.ledger.Refusal.{Refusal}
+use Rattle.machine.specs.declared.ledger.Refusal.TheVariants.{NoOp, NoCanceller, NoHandle, Full as IsFull}
+use Rattle.machine.specs.declared.ledger.Reply.TheVariants.{Handle, Released, Submitted as Given, CanceledAtOnce, Pending as Waits, Handed}
+use Rattle.machine.specs.declared.ledger.Reply.TheVariants.{Dropped, Asked, Canceller, CancelHandle, Cancels, Turned as Turns, Refused}
+use Rattle.machine.specs.declared.request.Request.{Request}
 use Rattle.ring_core.specs.declared.ring.EnterError.TheVariants.{Fault, Busy as WasBusy}
 use Rattle.driver_core.specs.Answers.{HandleFor}
 use Rattle.driver_core.specs.Tokens.{token_at, by_number, cancellers_in, handles_in, KeepsGroups}

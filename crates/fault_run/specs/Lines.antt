@@ -1,8 +1,8 @@
 -- The lines that a run over a faulty ring takes, and what each stands for.
 use Rattle.std.specs.Prelude.{ℕ, ◌≡◌, ◌^◌, ◌<◌, true, List, ◌∷◌, codes, decimal}
-use Rattle.ring_core.specs.declared.ledger.Event.{Event}
-use Rattle.ring_core.specs.declared.ledger.Event.TheVariants.{Feed, FeedMessage, End, Look, Submit, Exec}
-use Rattle.ring_core.specs.declared.request.Told.{Told}
+use Rattle.machine.specs.declared.ledger.Event.{Event}
+use Rattle.machine.specs.declared.ledger.Event.TheVariants.{Feed, FeedMessage, End, Look, Submit, Exec}
+use Rattle.machine.specs.declared.request.Told.{Told}
 use Rattle.event_text.specs.TextEvent.{StandsFor, IsTold, told_words}
 use Rattle.event_text.specs.TextWords.{spaced}
 use Rattle.fault_run.specs.declared.line.Line.{Line}

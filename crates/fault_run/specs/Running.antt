@@ -1,6 +1,6 @@
 -- How far a run is. Cited by the functions of `run`, and by no public clause.
 use Rattle.std.specs.Prelude.{ℕ, ◌≡◌, ◌≤◌, ◌<◌, ◌+◌, Bool, IsTrue, List, ◌∷◌, ◌++◌, length}
-use Rattle.ring_core.specs.Counts.{Rose}
+use Rattle.machine.specs.Counts.{Rose}
 use Rattle.rent_io.specs.Call.{Took}
 use Rattle.event_text.specs.TextLines.{lines}
 use Rattle.fault_run.specs.declared.answer.Answer.{Answer}

@@ -1,7 +1,7 @@
 -- How a run over a faulty ring ends: what it has then read, answered and written. `run_faults` cites `FaultsEnd`.
 use Rattle.std.specs.Prelude.{ℕ, ◌≡◌, ◌≤◌, ◌+◌, ◌⊎◌, Bool, IsTrue, List, [], ◌∷◌, ◌++◌, length}
 use Rattle.std.specs.List.{AllZip}
-use Rattle.ring_core.specs.Counts.{Rose}
+use Rattle.machine.specs.Counts.{Rose}
 use Rattle.rent_io.specs.Call.{Reading, Writing, Took, TookMore}
 use Rattle.event_text.specs.TextLines.{lines}
 use Rattle.fault_run.specs.declared.answer.Answer.{Answer}

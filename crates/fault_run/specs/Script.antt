@@ -2,7 +2,7 @@
 use Rattle.std.specs.Prelude.{ℕ, ◌≡◌, ◌≤◌, ◌<◌, ◌==◌, ◌||◌, Bool, true, List, [], ◌∷◌, All, length, codes, decimal}
 use Rattle.memchr.specs.Find.{is_byte, places}
 use Rattle.ring_core.specs.FaultRing.{fresh_faults}
-use Rattle.ring_core.specs.Ledger.{empty}
+use Rattle.machine.specs.Ledger.{empty}
 use Rattle.ring_core.specs.MemRing.{fresh_ring}
 use Rattle.driver_core.specs.Members.{none}
 use Rattle.driver_core.specs.Tokens.{by_number, cancellers_in, handles_in}

@@ -1,10 +1,10 @@
 -- What answers to lines do to a session, and what they say.
 use Rattle.std.specs.Prelude.{ℕ, ◌≡◌, List, [], ◌∷◌, length, map}
-use Rattle.ring_core.specs.declared.entry.Completion.{Completion}
-use Rattle.ring_core.specs.declared.request.Outcome.{Outcome}
-use Rattle.ring_core.specs.declared.request.Outcome.TheVariants.{Count as Counted, Fail as Failed}
-use Rattle.ring_core.specs.declared.request.Told.{Told}
-use Rattle.ring_core.specs.declared.request.Told.TheVariants.{Count, Fail}
+use Rattle.machine.specs.declared.completion.Completion.{Completion}
+use Rattle.machine.specs.declared.request.Outcome.{Outcome}
+use Rattle.machine.specs.declared.request.Outcome.TheVariants.{Count as Counted, Fail as Failed}
+use Rattle.machine.specs.declared.request.Told.{Told}
+use Rattle.machine.specs.declared.request.Told.TheVariants.{Count, Fail}
 use Rattle.uring_driver.specs.Finish.{injected, with_ring_in}
 use Rattle.uring_driver.specs.Uring.{ring_in, due_in}
 use Rattle.fault_run.specs.declared.answer.Answer.{Answer}

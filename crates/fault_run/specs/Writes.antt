@@ -1,6 +1,6 @@
 -- What writing a text has done, and why it stopped. Cited by the functions of `output`.
 use Rattle.std.specs.Prelude.{ℕ, ◌≡◌, ◌≤◌, Bool, IsTrue, List, ◌++◌, Result, Ok, Err}
-use Rattle.ring_core.specs.Counts.{Rose}
+use Rattle.machine.specs.Counts.{Rose}
 use Rattle.rent_io.specs.declared.source.Failed.{Failed}
 use Rattle.fault_run.specs.declared.output.Unwritten.{Unwritten}
 

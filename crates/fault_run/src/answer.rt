@@ -4,8 +4,9 @@ ghost use Rattle.fault_run.specs.Texts.{answer_text, behind_spaces, halt_text, k
 ghost use Rattle.fault_run.specs.declared.answer.Answer.TheVariants.{Stopped};
 
 use event_text::{put_number, write_reply};
+use machine::Reply;
 use rent_buf::{NumList, OutOfMemory};
-use ring_core::{EnterError, Reply};
+use ring_core::EnterError;
 
 /// Why a turn stopped that didn't run out of memory. (not in monoio)
 #[derive(Clone, Copy, Debug, PartialEq, Eq)]

@@ -1,12 +1,12 @@
 //! The lines that a run over a faulty ring takes: events, completions and looks at the ring.
 ghost use Rattle.std.specs.Prelude.{◌≡◌, ◌++◌, ℕ, List, [], IfOk, MatchOption, codes};
-ghost use Rattle.ring_core.specs.declared.request.Told.{Told as Reported};
+ghost use Rattle.machine.specs.declared.request.Told.{Told as Reported};
 ghost use Rattle.event_text.specs.TextLook.{line_end};
 ghost use Rattle.fault_run.specs.Lines.{IsTaken, Says, SaysNothing, IsNoCompletion};
 
 use event_text::event_of_line;
+use machine::{Event, Told};
 use rent_buf::OutOfMemory;
-use ring_core::{Event, Told};
 use std::alloc::Global;
 
 // The first word of a completion.

@@ -2,7 +2,7 @@
 ghost use Rattle.std.specs.Prelude.{◌≡◌, ◌<◌, ◌↔◌, ◌⊎◌, IfOk, IsTrue, Some};
 ghost use Rattle.memchr.specs.Find.{is_byte, places};
 ghost use Rattle.rent_buf.specs.Buf.{built};
-ghost use Rattle.ring_core.specs.Request.{held_of, plain_request};
+ghost use Rattle.machine.specs.Request.{held_of, plain_request};
 ghost use Rattle.driver_core.specs.declared.op.Op.{Op as Token};
 ghost use Rattle.uring_driver.specs.Uring.{holds_handle};
 ghost use Rattle.fault_run.specs.Events.{Asks, ClosesIf, Drops, Gives, HasOp, MakesTurn, Polls, RefusesNoOp, StepsEvent};
@@ -14,9 +14,10 @@ ghost use Rattle.fault_run.specs.Steps.{Steps};
 use crate::answer::{Answer, Halt};
 use crate::line::Line;
 use driver_core::{Stop, Tokens, Turned};
+use machine::{Event, MOST_HANDLES, Refusal, Reply, Request, SharedFd};
 use memchr::memchr_iter;
 use rent_buf::{Buf, Held, HeldBuf, NumList, OutOfMemory, VecBuf};
-use ring_core::{Event, FaultRing, MOST_HANDLES, MemRing, Refusal, Reply, Request, SharedFd};
+use ring_core::{FaultRing, MemRing};
 use std::alloc::Global;
 use uring_driver::{Driver as _, IoUringDriver, PollOp};
 

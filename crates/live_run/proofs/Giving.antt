@@ -1,7 +1,7 @@
 -- What a run gives whose replies come line by line.
 use Rattle.std.proofs.Common.{◌≡◌, ◌∙◌, inl, ℕ, ◌+◌, ◌≤◌, Bool, IsTrue, List, [], ◌∷◌, length, Option, None, refl, append-nil, sym, subst, arith}
 use Rattle.std.specs.Prelude.{Result, Ok, Err, IfErr, OnOk}
-use Rattle.ring_core.specs.Ledger.{Ledger}
+use Rattle.machine.specs.Ledger.{Ledger}
 use Rattle.rent_io.specs.Call.{Reading, Took, Writing}
 use Rattle.rent_io.proofs.Runs.{rose_later}
 use Rattle.session_core.specs.declared.input.TheConstants.{MOST_INPUT}
@@ -11,7 +11,7 @@ use Rattle.session_core.specs.declared.top.Status.TheVariants.{Done, BadWords, B
 use Rattle.session_core.specs.declared.top.Status.TheVariants.{ReadFault, WriteFault, OutOfMemory, NetFault, BadFrame}
 use Rattle.session_core.specs.declared.top.Stop.{Stop}
 use Rattle.session_core.specs.Session.{SessionStands}
-use Rattle.ring_core.specs.Run.{replies}
+use Rattle.machine.specs.Run.{replies}
 use Rattle.session_core.specs.Top.{reply_lines}
 use Rattle.live_run.specs.Live.{LiveGives, RanFirst, RanUnwritten, of_lines}
 use Rattle.live_run.specs.Living.{AllRan, AreBehind, FinishGives, LiveAt, SinkStops, StoppedAtLine, WhyNoMore}

@@ -3,11 +3,11 @@ use Rattle.std.proofs.Common.{◌≡◌, ◌∙◌, ◌⊎◌, inr, ℕ, ◌+◌
 use Rattle.std.proofs.Common.{append-nil, append_assoc, length-append, arith}
 use Rattle.std.specs.Prelude.{Result, Ok, Err}
 use Rattle.std.specs.List.{AllZip}
-use Rattle.ring_core.specs.declared.ledger.Event.{Event}
-use Rattle.ring_core.specs.declared.ledger.Reply.{Reply}
-use Rattle.ring_core.specs.Ledger.{Ledger}
-use Rattle.ring_core.specs.Run.{after, replies}
-use Rattle.ring_core.specs.Step.{step}
+use Rattle.machine.specs.declared.ledger.Event.{Event}
+use Rattle.machine.specs.declared.ledger.Reply.{Reply}
+use Rattle.machine.specs.Ledger.{Ledger}
+use Rattle.machine.specs.Run.{after, replies}
+use Rattle.machine.specs.Step.{step}
 use Rattle.event_text.specs.TextEvent.{StandsFor}
 use Rattle.event_text.specs.TextLines.{lines}
 use Rattle.event_text.specs.TextReply.{reply_text}

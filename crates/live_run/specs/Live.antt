@@ -1,10 +1,10 @@
 -- What a run has done whose replies come line by line. Cited by `run_live`.
 use Rattle.std.specs.Prelude.{ℕ, ◌≡◌, ◌+◌, ◌⊎◌, Bool, IsTrue, List, ◌∷◌, ◌++◌, length, Option, Some, None, Result, Ok, Err}
 use Rattle.std.specs.List.{AllZip}
-use Rattle.ring_core.specs.declared.ledger.Event.{Event}
-use Rattle.ring_core.specs.Counts.{Rose}
-use Rattle.ring_core.specs.Ledger.{Ledger}
-use Rattle.ring_core.specs.Run.{replies}
+use Rattle.machine.specs.declared.ledger.Event.{Event}
+use Rattle.machine.specs.Counts.{Rose}
+use Rattle.machine.specs.Ledger.{Ledger}
+use Rattle.machine.specs.Run.{replies}
 use Rattle.event_text.specs.TextEvent.{StandsFor}
 use Rattle.event_text.specs.TextLines.{lines, IsWrong}
 use Rattle.session_core.specs.declared.session.Session.{Session}

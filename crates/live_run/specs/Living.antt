@@ -1,11 +1,11 @@
 -- How far a run is whose replies come line by line. Cited by the functions that `run_live` calls.
 use Rattle.std.specs.Prelude.{ℕ, ◌≡◌, ◌<◌, ◌+◌, ◌⊎◌, Bool, IsTrue, List, [], ◌∷◌, ◌++◌, length, Option, Some, None, Result, Ok, Err}
 use Rattle.std.specs.List.{AllZip}
-use Rattle.ring_core.specs.declared.ledger.Event.{Event}
-use Rattle.ring_core.specs.Counts.{Rose}
-use Rattle.ring_core.specs.Ledger.{Ledger}
-use Rattle.ring_core.specs.Run.{after, replies}
-use Rattle.ring_core.specs.Step.{step}
+use Rattle.machine.specs.declared.ledger.Event.{Event}
+use Rattle.machine.specs.Counts.{Rose}
+use Rattle.machine.specs.Ledger.{Ledger}
+use Rattle.machine.specs.Run.{after, replies}
+use Rattle.machine.specs.Step.{step}
 use Rattle.rent_io.specs.Call.{Took}
 use Rattle.event_text.specs.TextEvent.{StandsFor}
 use Rattle.event_text.specs.TextLines.{lines, IsWrong}

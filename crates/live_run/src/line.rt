@@ -1,6 +1,6 @@
 //! The run of one line.
 ghost use Rattle.std.specs.Prelude.{◌≡◌, ◌≤◌, ◌⊎◌, [], None, Some, IfOk, IfErr, IfNone, IfSome, OnOk, IsTrue};
-ghost use Rattle.ring_core.specs.Ledger.{Ledger};
+ghost use Rattle.machine.specs.Ledger.{Ledger};
 ghost use Rattle.event_text.specs.TextLook.{line_end};
 ghost use Rattle.rent_io.specs.Call.{writing};
 ghost use Rattle.session_core.specs.Session.{SessionStands};
@@ -8,10 +8,10 @@ ghost use Rattle.session_core.specs.declared.top.Stop.TheVariants.{Line};
 ghost use Rattle.live_run.specs.Living.{IsWhole, LineRuns, Replied, RefusesLine, RunsEvent, SinkStops};
 
 use event_text::{event_of_line, write_reply};
+use machine::Event;
 use memchr::memchr;
 use rent_buf::{ByteList, OutOfMemory};
 use rent_io::ByteSink;
-use ring_core::Event;
 use session_core::{Session, Status, Stop, write_last, write_number};
 use std::alloc::Global;
 

@@ -1,6 +1,6 @@
 //! The command `run CAP -i`: each line is run as soon as it is read, and its reply is written and flushed before more is read.
 ghost use Rattle.std.specs.Prelude.{◌≡◌, ◌<◌, ◌≤◌, ◌+◌, ◌++◌, [], None, IfOk, IfErr, OnOk, IsTrue, drop, length, vec_len};
-ghost use Rattle.ring_core.specs.Ledger.{Ledger, empty};
+ghost use Rattle.machine.specs.Ledger.{Ledger, empty};
 ghost use Rattle.event_text.specs.TextLook.{line_end};
 ghost use Rattle.rent_io.specs.Call.{Took, reading, writing};
 ghost use Rattle.session_core.specs.Session.{SessionStands};

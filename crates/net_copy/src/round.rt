@@ -10,11 +10,11 @@ ghost use Rattle.net_copy.specs.Round.{KeepsBesideBoth, MadeIf, MaySubmit, Round
 
 use driver_core::{MOST_GIVEN, SubmitFault};
 use handle_core::SharedFd;
+use machine::Names;
 use net_stream::{Connection, Progress};
 use ready_driver::{LegacyDriver, NonBlock};
 use rent_buf::Rent;
 use rent_io::Step;
-use ring_core::Names;
 use stream_util::{Copied, Copy};
 
 /// What a round of a copy came to. (not in monoio)

@@ -7,8 +7,8 @@ use Rattle.std.specs.FinMap as map
 use Rattle.rent_buf.specs.Parts.{Parts}
 use Rattle.rent_buf.specs.Rent.{Rented}
 use Rattle.handle_core.specs.Table.{Table, by_user, holders_at, nobody, without_user}
-use Rattle.ring_core.specs.declared.request.Request.{Request}
-use Rattle.ring_core.proofs.Numbers.{same-or-not}
+use Rattle.machine.specs.declared.request.Request.{Request}
+use Rattle.machine.proofs.Numbers.{same-or-not}
 use Rattle.driver_core.specs.declared.op.Op.{Op}
 use Rattle.driver_core.specs.Holds.{settled}
 use Rattle.driver_core.specs.Op.{number_of}

@@ -3,7 +3,7 @@ use Rattle.std.specs.declared.alloc.Global.{Global}
 use Rattle.std.proofs.Common.{Box, ℕ, ◌≡◌, ◌∙◌, sym, refl, subst, Option, Some, None, List, [], ◌∷◌, ◌++◌, inl, inr}
 use Rattle.rent_buf.specs.Parts.{Parts}
 use Rattle.rent_buf.specs.Rent.{Rented}
-use Rattle.ring_core.specs.declared.request.Request.{Request}
+use Rattle.machine.specs.declared.request.Request.{Request}
 use Rattle.driver_core.specs.declared.op.Op.{Op}
 use Rattle.driver_core.specs.Ops.{Ops}
 use Rattle.net_stream.specs.declared.connection.Connection.{Connection}

@@ -9,11 +9,11 @@ use crate::net_job::Ended;
 use crate::serve::{Serve, Served};
 use driver_core::{MOST_GIVEN, SubmitFault};
 use handle_core::SharedFd;
+use machine::Names;
 use net_stream::{Connection, Progress};
 use op_driver::OpDriver;
 use rent_buf::Rent;
 use rent_io::{AsyncBufRead as _, AsyncWriteRent as _, PollCount};
-use ring_core::Names;
 
 /// How many passes a poll makes at most.
 pub(crate) const PASSES: usize = 16;

@@ -2,7 +2,7 @@
 use Rattle.std.proofs.Common.{◌≡◌, Option, Some, None, arith}
 use Rattle.rent_buf.specs.Parts.{Parts}
 use Rattle.rent_buf.specs.Rent.{Rented, buffer_of_rent}
-use Rattle.ring_core.specs.declared.request.Request.{Request}
+use Rattle.machine.specs.declared.request.Request.{Request}
 use Rattle.driver_core.specs.declared.op.Op.{Op}
 use Rattle.driver_core.specs.Op.{KeepsTokens}
 use Rattle.driver_core.specs.Ops.{Ops}

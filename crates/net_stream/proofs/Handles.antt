@@ -1,14 +1,14 @@
 -- What a receive and a send leave of an object's handles: other handles' bytes, and what was sent, or waits, at their own.
 use Rattle.std.proofs.Common.{ℕ, ◌≡◌, ◌≢◌, ◌∙◌, ap, sym, refl, subst, List, [], Option, Some, None, inl, inr}
 use Rattle.std.specs.Prelude.{option_map, unwrap_or, slice_get}
-use Rattle.ring_core.specs.declared.world.HandleKind.{HandleKind}
-use Rattle.ring_core.specs.declared.world.HandleKind.TheVariants.{Stream, Pipe, Datagram, File, Listener}
-use Rattle.ring_core.specs.declared.world.HandleState.{HandleState}
-use Rattle.ring_core.specs.Effect.{sent_to_kind, with_sent, without_front}
-use Rattle.ring_core.specs.Lists.{amended}
-use Rattle.ring_core.specs.World.{input_at}
-use Rattle.ring_core.proofs.Amended.{get-amended, get-amended-other}
-use Rattle.ring_core.proofs.Numbers.{same-or-not}
+use Rattle.machine.specs.declared.world.HandleKind.{HandleKind}
+use Rattle.machine.specs.declared.world.HandleKind.TheVariants.{Stream, Pipe, Datagram, File, Listener}
+use Rattle.machine.specs.declared.world.HandleState.{HandleState}
+use Rattle.machine.specs.Effect.{sent_to_kind, with_sent, without_front}
+use Rattle.machine.specs.Lists.{amended}
+use Rattle.machine.specs.World.{input_at}
+use Rattle.machine.proofs.Amended.{get-amended, get-amended-other}
+use Rattle.machine.proofs.Numbers.{same-or-not}
 use Rattle.net_stream.specs.Told.{IsSentTo, IsStream, IsTaken, output_at}
 
 -- What waits at a handle that was looked up.

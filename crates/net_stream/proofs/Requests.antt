@@ -3,11 +3,11 @@ use Rattle.std.proofs.Common.{ℕ, ◌≡◌, ◌∙◌, ap, sym, refl, subst, O
 use Rattle.rent_buf.specs.Buffer.{Buffer}
 use Rattle.rent_buf.specs.Parts.{Parts}
 use Rattle.rent_buf.specs.Rent.{Rented, buffer_of_rent}
-use Rattle.ring_core.specs.declared.request.Request.{Request}
-use Rattle.ring_core.specs.declared.request.Request.TheVariants.{Recv, ReadVec, Send, WriteVec, RecvMsg, SendMsg, Read, Write}
-use Rattle.ring_core.specs.declared.request.Request.TheVariants.{SpliceTo, SpliceFrom, Accept, Open, Connect, Fsync, PollAdd, MkDir, Rename}
-use Rattle.ring_core.specs.declared.request.Request.TheVariants.{Unlink}
-use Rattle.ring_core.specs.Request.{plain_request, shape_of}
+use Rattle.machine.specs.declared.request.Request.{Request}
+use Rattle.machine.specs.declared.request.Request.TheVariants.{Recv, ReadVec, Send, WriteVec, RecvMsg, SendMsg, Read, Write}
+use Rattle.machine.specs.declared.request.Request.TheVariants.{SpliceTo, SpliceFrom, Accept, Open, Connect, Fsync, PollAdd, MkDir, Rename}
+use Rattle.machine.specs.declared.request.Request.TheVariants.{Unlink}
+use Rattle.machine.specs.Request.{plain_request, shape_of}
 use Rattle.op_driver.specs.Returned.{IsBack, IsBackOf}
 use Rattle.net_stream.specs.Drives.{IfAsked, IsRecv, IsSend}
 

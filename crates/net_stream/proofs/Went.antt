@@ -8,19 +8,19 @@ use Rattle.rent_buf.specs.Parts.{Parts}
 use Rattle.rent_buf.specs.Rent.{Rented, buffer_of_rent}
 use Rattle.rent_buf.specs.declared.fault.IoFault.{IoFault}
 use Rattle.rent_buf.specs.declared.fault.OutOfMemory.{OutOfMemory as NoMemory}
-use Rattle.ring_core.specs.declared.request.Outcome.{Outcome}
-use Rattle.ring_core.specs.declared.request.Told.{Told}
-use Rattle.ring_core.specs.declared.request.Told.TheVariants as told
-use Rattle.ring_core.specs.declared.request.Request.{Request}
-use Rattle.ring_core.specs.declared.request.Request.TheVariants.{Send}
-use Rattle.ring_core.specs.declared.request.TheConstants.{MOST_ASKED}
-use Rattle.ring_core.specs.declared.world.HandleKind.TheVariants.{Stream}
-use Rattle.ring_core.specs.declared.world.HandleState.{HandleState}
-use Rattle.ring_core.specs.Effect.{made_by, sent_to_kind, with_sent}
-use Rattle.ring_core.specs.Lists.{amended}
-use Rattle.ring_core.specs.Request.{plain_request, sent_of}
-use Rattle.ring_core.specs.WorldCall.{call_effect}
-use Rattle.ring_core.proofs.Amended.{get-amended}
+use Rattle.machine.specs.declared.request.Outcome.{Outcome}
+use Rattle.machine.specs.declared.request.Told.{Told}
+use Rattle.machine.specs.declared.request.Told.TheVariants as told
+use Rattle.machine.specs.declared.request.Request.{Request}
+use Rattle.machine.specs.declared.request.Request.TheVariants.{Send}
+use Rattle.machine.specs.declared.request.TheConstants.{MOST_ASKED}
+use Rattle.machine.specs.declared.world.HandleKind.TheVariants.{Stream}
+use Rattle.machine.specs.declared.world.HandleState.{HandleState}
+use Rattle.machine.specs.Effect.{made_by, sent_to_kind, with_sent}
+use Rattle.machine.specs.Lists.{amended}
+use Rattle.machine.specs.Request.{plain_request, sent_of}
+use Rattle.machine.specs.WorldCall.{call_effect}
+use Rattle.machine.proofs.Amended.{get-amended}
 use Rattle.driver_core.specs.declared.op.Done.{Done as Ended}
 use Rattle.driver_core.specs.declared.op.Op.{Op}
 use Rattle.driver_core.specs.declared.op.PollOp.{PollOp}

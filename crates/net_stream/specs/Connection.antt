@@ -3,7 +3,7 @@ use Rattle.std.specs.Prelude.{ℕ, ◌≡◌, ◌≢◌, ◌⊎◌, Bool, true, 
 use Rattle.rent_buf.specs.Rent.{Rented}
 use Rattle.rent_buf.specs.declared.fault.IoFault.{IoFault}
 use Rattle.rent_buf.specs.declared.fault.IoFault.TheVariants.{Os}
-use Rattle.ring_core.specs.declared.request.TheConstants.{CANCELED}
+use Rattle.machine.specs.declared.request.TheConstants.{CANCELED}
 use Rattle.handle_core.specs.declared.table.Released.{Released}
 use Rattle.driver_core.specs.declared.op.Op.{Op}
 use Rattle.driver_core.specs.declared.op.SubmitFault.{SubmitFault}

@@ -1,7 +1,7 @@
 -- Where the buffer of a box is: here, or with the operation that waits.
 use Rattle.std.specs.Prelude.{ℕ, ◌≡◌, List, [], Option, None, Some}
 use Rattle.rent_buf.specs.Rent.{Rented}
-use Rattle.ring_core.specs.declared.request.Outcome.{Outcome}
+use Rattle.machine.specs.declared.request.Outcome.{Outcome}
 use Rattle.driver_core.specs.declared.op.Op.{Op}
 
 -- The bytes that a buffer holds, where it is here.

@@ -13,9 +13,9 @@ use crate::outgoing::Outgoing;
 use crate::progress::Progress;
 use driver_core::{CancelHandle, MOST_GIVEN, Op, SubmitFault};
 use handle_core::SharedFd;
+use machine::CANCELED;
 use op_driver::OpDriver;
 use rent_buf::{IoFault, OutOfMemory, Rent};
-use ring_core::CANCELED;
 use std::alloc::Global;
 
 /// A handle that its user holds, what came at it, and what is to go. Its two boxes are streams: `&mut connection.inbox` is read, and

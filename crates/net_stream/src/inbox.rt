@@ -9,10 +9,10 @@ ghost use Rattle.net_stream.specs.Inbox.{FaultAfter, ReadsInbox, Turns, WantsMor
 ghost use Rattle.net_stream.specs.Inbox.{came, fault_of, is_end, received};
 
 use crate::tally::{Tally, Turn};
+use machine::{CANCELED, Outcome};
 use rent_buf::{IoBufMut, IoFault, IoVecBufMut, OutOfMemory, Rent};
 use rent_io::vectored::first_room;
 use rent_io::{AsyncBufRead, AsyncReadRent, PollBuf, PollCount};
-use ring_core::{CANCELED, Outcome};
 use std::alloc::Global;
 use std::marker::Model;
 use std::mem;

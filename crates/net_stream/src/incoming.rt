@@ -1,6 +1,6 @@
 // What comes at a handle, before an inbox has it.
 ghost use Rattle.std.specs.Prelude.{◌≡◌, ◌≤◌, ◌<◌, ◌+◌, ◌∷◌, [], None, Some, IsTrue, IsSome, IfOk, OnOk};
-ghost use Rattle.ring_core.specs.declared.request.Request.TheVariants.{Recv};
+ghost use Rattle.machine.specs.declared.request.Request.TheVariants.{Recv};
 ghost use Rattle.net_stream.specs.Drives.{FitsOp, IsRecv, KeepsOther};
 ghost use Rattle.net_stream.specs.Incoming.{BeginsReceive, Gives, JoinsReceive, PollsReceive, idle_coming};
 
@@ -9,9 +9,9 @@ use driver_core::{
     CancelHandle, Done, MOST_GIVEN, Op, PollOp, SubmitError, SubmitFault, Submitted,
 };
 use handle_core::SharedFd;
+use machine::{Outcome, Request};
 use op_driver::OpDriver;
 use rent_buf::{Rent, VecBuf};
-use ring_core::{Outcome, Request};
 use std::marker::Model;
 
 /// The receive that a connection waits for, or what came of the last one. (not in monoio)

@@ -6,9 +6,9 @@ ghost use Rattle.net_stream.specs.Listener.{AcceptsOnce, FitsListener, HasAccept
 use crate::incoming::hold;
 use driver_core::{MOST_GIVEN, Op, PollOp, SubmitFault};
 use handle_core::SharedFd;
+use machine::{INVALID, Outcome, Request};
 use op_driver::OpDriver;
 use rent_buf::{IoFault, Rent, VecBuf};
-use ring_core::{INVALID, Outcome, Request};
 
 /// What an accept came to.
 #[derive(Clone, Copy, Debug, PartialEq, Eq)]

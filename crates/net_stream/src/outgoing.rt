@@ -1,6 +1,6 @@
 // What goes to a handle, once an outbox gave it.
 ghost use Rattle.std.specs.Prelude.{◌≡◌, ◌≤◌, ◌<◌, ◌+◌, ◌∷◌, [], None, IsTrue, IsSome, IfOk, OnOk, drop};
-ghost use Rattle.ring_core.specs.declared.request.Request.TheVariants.{Send};
+ghost use Rattle.machine.specs.declared.request.Request.TheVariants.{Send};
 ghost use Rattle.net_stream.specs.Drives.{FitsOp, IsSend, KeepsOther};
 ghost use Rattle.net_stream.specs.Outgoing.{BeginsSend, JoinsSend, Loads, PollsSend, SentOutIf, has_bytes, idle_going, send_fault, sent_by};
 
@@ -10,9 +10,9 @@ use driver_core::{
     CancelHandle, Done, MOST_GIVEN, Op, PollOp, SubmitError, SubmitFault, Submitted,
 };
 use handle_core::SharedFd;
+use machine::{Outcome, Request};
 use op_driver::OpDriver;
 use rent_buf::{IoBufMut as _, IoFault, Rent, VecBuf};
-use ring_core::{Outcome, Request};
 use std::marker::Model;
 use std::mem;
 

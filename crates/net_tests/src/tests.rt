@@ -4,12 +4,12 @@ ghost use Rattle.net_stream.specs.Connection.{FitsConnection};
 
 use driver_core::MOST_GIVEN;
 use handle_core::SharedFd;
+use machine::{HandleKind, MOST_HANDLES, Names};
 use net_stream::{Connection, Inbox, Outbox};
 use op_driver::OpDriver;
 use ready_driver::{LegacyDriver, MemIo};
 use rent_buf::Rent;
 use rent_io::{AsyncReadRent as _, AsyncWriteRent as _, PollBuf};
-use ring_core::{HandleKind, MOST_HANDLES, Names};
 use std::alloc::Global;
 use std::test::Fail;
 

@@ -6,13 +6,14 @@ use Rattle.std.specs.FinMap.{FinMap, get, insert}
 use Rattle.rent_buf.specs.Buffer.{Buffer}
 use Rattle.rent_buf.specs.Parts.{Parts}
 use Rattle.ring_core.specs.declared.mem_ring.ExecRefusal.{ExecRefusal}
-use Rattle.ring_core.specs.declared.request.Request.{Request}
-use Rattle.ring_core.specs.declared.request.Told.{Told}
-use Rattle.ring_core.specs.Payloads.{StoresIf, body_comes}
-use Rattle.ring_core.specs.Request.{IsHolding, held_after, held_of, plain_request, stored_if}
+use Rattle.machine.specs.declared.request.Request.{Request}
+use Rattle.machine.specs.declared.request.Told.{Told}
+use Rattle.machine.specs.Payloads.{StoresIf}
+use Rattle.ring_core.specs.Bodies.{body_comes}
+use Rattle.machine.specs.Request.{IsHolding, held_after, held_of, plain_request, stored_if}
 use Rattle.ring_core.specs.Ring.{RingView}
-use Rattle.ring_core.proofs.Numbers.{same-or-not}
-use Rattle.ring_core.proofs.Requests.{request-is}
+use Rattle.machine.proofs.Numbers.{same-or-not}
+use Rattle.machine.proofs.Requests.{request-is}
 use Rattle.driver_core.specs.declared.op.Executed.{Executed}
 use Rattle.driver_core.specs.declared.slot.Slot.{Slot}
 use Rattle.driver_core.specs.Op.{number_of}

@@ -5,15 +5,15 @@ use Rattle.std.specs.FinMap as map
 use Rattle.rent_buf.specs.Buffer.{Buffer}
 use Rattle.rent_buf.specs.Parts.{Parts}
 use Rattle.rent_buf.specs.declared.fault.OutOfMemory.{OutOfMemory as NoMemory}
-use Rattle.ring_core.specs.declared.request.Outcome.{Outcome}
-use Rattle.ring_core.specs.declared.request.Outcome.TheVariants.{Count, From, Made, Fail}
-use Rattle.ring_core.specs.declared.request.Request.{Request}
-use Rattle.ring_core.specs.declared.request.Request.TheVariants.{Recv, ReadVec, Send, WriteVec, RecvMsg, SendMsg, Read, Write}
-use Rattle.ring_core.specs.declared.request.Request.TheVariants.{SpliceTo, SpliceFrom, Accept, Open, Connect, Fsync, PollAdd, MkDir, Rename}
-use Rattle.ring_core.specs.declared.request.Request.TheVariants.{Unlink}
-use Rattle.ring_core.specs.declared.request.Way.{Way}
-use Rattle.ring_core.specs.declared.request.Way.TheVariants.{Reads, Sends, Neither}
-use Rattle.ring_core.specs.Request.{plain_request, shape_of, way_of}
+use Rattle.machine.specs.declared.request.Outcome.{Outcome}
+use Rattle.machine.specs.declared.request.Outcome.TheVariants.{Count, From, Made, Fail}
+use Rattle.machine.specs.declared.request.Request.{Request}
+use Rattle.machine.specs.declared.request.Request.TheVariants.{Recv, ReadVec, Send, WriteVec, RecvMsg, SendMsg, Read, Write}
+use Rattle.machine.specs.declared.request.Request.TheVariants.{SpliceTo, SpliceFrom, Accept, Open, Connect, Fsync, PollAdd, MkDir, Rename}
+use Rattle.machine.specs.declared.request.Request.TheVariants.{Unlink}
+use Rattle.machine.specs.declared.request.Way.{Way}
+use Rattle.machine.specs.declared.request.Way.TheVariants.{Reads, Sends, Neither}
+use Rattle.machine.specs.Request.{plain_request, shape_of, way_of}
 use Rattle.driver_core.specs.declared.op.Op.{Op}
 use Rattle.driver_core.specs.declared.op.PollOp.{PollOp}
 use Rattle.driver_core.specs.declared.op.PollOp.TheVariants.{Pending, Ready}

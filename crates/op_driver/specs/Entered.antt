@@ -1,7 +1,7 @@
 -- What a submission under a group does to tokens and requests, whichever the driver. Cited by `OpDriver`.
 use Rattle.std.specs.Prelude.{◌≡◌, Some}
 use Rattle.rent_buf.specs.Parts.{Parts}
-use Rattle.ring_core.specs.declared.request.Request.{Request}
+use Rattle.machine.specs.declared.request.Request.{Request}
 use Rattle.driver_core.specs.declared.op.Submitted.{Submitted}
 use Rattle.driver_core.specs.declared.op.Submitted.TheVariants.{Op, Canceled}
 use Rattle.driver_core.specs.Op.{AddsToken, KeepsTokens}

@@ -4,8 +4,8 @@ use Rattle.std.specs.FinMap as map
 use Rattle.rent_buf.specs.Buffer.{Buffer}
 use Rattle.rent_buf.specs.Parts.{Parts}
 use Rattle.rent_buf.specs.declared.fault.OutOfMemory.{OutOfMemory}
-use Rattle.ring_core.specs.declared.request.Request.{Request}
-use Rattle.ring_core.specs.Lists.{has_number}
+use Rattle.machine.specs.declared.request.Request.{Request}
+use Rattle.machine.specs.Lists.{has_number}
 use Rattle.handle_core.specs.declared.table.Released.{Released}
 use Rattle.handle_core.specs.declared.table.Released.TheVariants.{Last}
 use Rattle.handle_core.specs.Table.{holders_at, without_user}

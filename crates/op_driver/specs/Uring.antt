@@ -5,7 +5,7 @@ use Rattle.rent_buf.specs.Parts.{Parts}
 use Rattle.rent_buf.specs.declared.fault.OutOfMemory.{OutOfMemory}
 use Rattle.ring_core.specs.Entry.{close_entry}
 use Rattle.ring_core.specs.Ring.{RingView}
-use Rattle.ring_core.specs.declared.request.Request.{Request}
+use Rattle.machine.specs.declared.request.Request.{Request}
 use Rattle.handle_core.specs.declared.table.Released.{Released}
 use Rattle.handle_core.specs.declared.table.Released.TheVariants.{Last}
 use Rattle.handle_core.specs.Table.{holders_at, without_user}

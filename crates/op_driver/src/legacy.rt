@@ -1,6 +1,6 @@
 // The readiness driver, over any object whose calls don't wait.
 ghost use Rattle.std.specs.Prelude.{◌≡◌, ◌<◌, IsTrue, Some, IfOk, IfErr, OnErr};
-ghost use Rattle.ring_core.specs.Request.{named};
+ghost use Rattle.machine.specs.Request.{named};
 ghost use Rattle.driver_core.specs.Op.{AddsToken, KeepsTokens};
 ghost use Rattle.driver_core.specs.Requests.{KeepsRequests, request_at};
 ghost use Rattle.ready_driver.specs.LegacyState.{group_count, holds_all, ops_in};
@@ -10,9 +10,9 @@ ghost use Rattle.op_driver.specs.Legacy.{LegacySubmits, LegacyJoins, LegacyPolls
 use crate::op_driver::OpDriver;
 use driver_core::{CancelHandle, Driver, MOST_GIVEN, Op, PollOp, SubmitError, Submitted, Turned};
 use handle_core::{Released, SharedFd};
+use machine::{Names, Request};
 use ready_driver::{LegacyDriver, NonBlock};
 use rent_buf::{IoBufMut, OutOfMemory, VecBuf};
-use ring_core::{Names, Request};
 
 impl<I: NonBlock, B: IoBufMut + Drop> OpDriver<B> for LegacyDriver<I, B> {
     ghost ops = { ops_in };

@@ -3,8 +3,8 @@ ghost use Rattle.std.specs.Prelude.{◌≡◌, ◌<◌, ◌↔◌, ◌∷◌, []
 ghost use Rattle.rent_buf.specs.Parts.{Parts};
 ghost use Rattle.rent_buf.specs.declared.fault.OutOfMemory.{OutOfMemory as NoMemory};
 ghost use Rattle.handle_core.specs.declared.table.Released.{Released as Answer};
-ghost use Rattle.ring_core.specs.Request.{listed, named};
-ghost use Rattle.ring_core.specs.declared.request.Request.{Request as Asked};
+ghost use Rattle.machine.specs.Request.{listed, named};
+ghost use Rattle.machine.specs.declared.request.Request.{Request as Asked};
 ghost use Rattle.driver_core.specs.declared.op.Op.{Op as Token};
 ghost use Rattle.driver_core.specs.declared.op.PollOp.{PollOp as Polled};
 ghost use Rattle.driver_core.specs.declared.op.SubmitError.{SubmitError as Refused};
@@ -18,8 +18,8 @@ ghost use Rattle.op_driver.specs.Returned.{KeepsOthers, PollsRequest};
 
 use driver_core::{CancelHandle, Driver, MOST_GIVEN, Op, PollOp, SubmitError, Submitted, Turned};
 use handle_core::{Released, SharedFd};
+use machine::{Names, Request};
 use rent_buf::{IoBufMut, OutOfMemory, VecBuf};
-use ring_core::{Names, Request};
 
 /// A driver of operations: requests are submitted, polled, canceled and dropped, and turns are made. Both drivers are one, with buffers
 /// of the type `B`. Its clauses speak of tokens and their requests; what else a call does is the driver's own relation, which at a driver

@@ -1,6 +1,6 @@
 // The completion driver, over any ring.
 ghost use Rattle.std.specs.Prelude.{◌≡◌, ◌<◌, IsTrue, Some, IfOk, IfErr, OnErr};
-ghost use Rattle.ring_core.specs.Request.{named};
+ghost use Rattle.machine.specs.Request.{named};
 ghost use Rattle.driver_core.specs.Op.{AddsToken, KeepsTokens};
 ghost use Rattle.driver_core.specs.Requests.{KeepsRequests, request_at};
 ghost use Rattle.uring_driver.specs.Op.{ops_in};
@@ -11,8 +11,9 @@ ghost use Rattle.op_driver.specs.Uring.{UringSubmits, UringJoins, UringPolls, Ur
 use crate::op_driver::OpDriver;
 use driver_core::{CancelHandle, Driver, MOST_GIVEN, Op, PollOp, SubmitError, Submitted, Turned};
 use handle_core::{Released, SharedFd};
+use machine::{Names, Request};
 use rent_buf::{IoBufMut, OutOfMemory, VecBuf};
-use ring_core::{Names, Request, Ring};
+use ring_core::Ring;
 use uring_driver::IoUringDriver;
 
 impl<R: Ring, B: IoBufMut + Drop> OpDriver<B> for IoUringDriver<R, B> {

@@ -6,8 +6,8 @@ use Rattle.std.specs.FinMap.{get}
 use Rattle.std.specs.List.{Contains}
 use Rattle.rent_buf.specs.Buffer.{Buffer}
 use Rattle.rent_buf.specs.declared.fault.OutOfMemory.{OutOfMemory}
-use Rattle.ring_core.specs.Attempt.{is_readable_at}
-use Rattle.ring_core.specs.Lists.{has_number}
+use Rattle.machine.specs.Attempt.{is_readable_at}
+use Rattle.machine.specs.Lists.{has_number}
 use Rattle.core_exec.specs.declared.table.Task.{Task}
 use Rattle.core_exec.specs.declared.turn.Ran.{Ran}
 use Rattle.core_exec.specs.Marks.{has_number as has_task, is_late, ready_tasks}

@@ -10,10 +10,10 @@ use Rattle.rent_buf.specs.Buffer.{Buffer}
 use Rattle.rent_buf.specs.Parts.{Parts}
 use Rattle.rent_buf.specs.declared.fault.OutOfMemory.{OutOfMemory}
 use Rattle.handle_core.specs.Table.{Table, holders_at, with_holders, with_operation}
-use Rattle.ring_core.specs.declared.request.Request.{Request}
-use Rattle.ring_core.specs.Lists.{has_number}
-use Rattle.ring_core.specs.Request.{named}
-use Rattle.ring_core.proofs.Numbers.{same-or-not}
+use Rattle.machine.specs.declared.request.Request.{Request}
+use Rattle.machine.specs.Lists.{has_number}
+use Rattle.machine.specs.Request.{named}
+use Rattle.machine.proofs.Numbers.{same-or-not}
 use Rattle.core_exec.specs.Marks.{has_number as has_task}
 use Rattle.driver_core.specs.declared.op.Op.{Op}
 use Rattle.driver_core.specs.declared.op.PollOp.{PollOp}

@@ -21,9 +21,11 @@ use Rattle.op_job.specs.Met.{IsWaiting}
 bit_apart : (x y : ℕ) → x < 2 → y < 2 → min ((x + min x y) % 2) y ≡ 0
 bit_apart x y one other = omega arith
 
+-- Nor one with both.
 bit_apart_both : (x y : ℕ) → x < 2 → y < 2 → min ((x + min x y) % 2) (min x y) ≡ 0
 bit_apart_both x y one other = omega arith
 
+-- With it the bit is there again.
 bit_whole : (x y : ℕ) → x < 2 → y < 2 → max ((x + min x y) % 2) (min x y) ≡ x
 bit_whole x y one other = omega arith
 
@@ -31,19 +33,23 @@ bit_whole x y one other = omega arith
 abbrev cleared : ℕ → ℕ → ℕ
 cleared a b = bit_xor a (bit_and a b)
 
+-- Bit by bit.
 cleared_bit : (a b k : ℕ) → bit_at (cleared a b) k ≡ (bit_at a k + min (bit_at a k) (bit_at b k)) % 2
 cleared_bit a b k = bit_at_xor a (bit_and a b) k ∙ ap (λ n. (bit_at a k + n) % 2) (bit_at_and a b k)
 
+-- It shares nothing with the other.
 cleared_apart : (a b : ℕ) → bit_and (cleared a b) b ≡ 0
 cleared_apart a b = same_from_bits _ _ (λ k. bit_at_and (cleared a b) b k ∙ ap (λ n. min n (bit_at b k)) (cleared_bit a b k)
     ∙ bit_apart (bit_at a k) (bit_at b k) (bit_at-lt a k) (bit_at-lt b k) ∙ sym (bit_at-zero k))
 
+-- Nor with what both have.
 cleared_apart_both : (a b : ℕ) → bit_and (cleared a b) (bit_and a b) ≡ 0
 cleared_apart_both a b = same_from_bits _ _ (λ k. bit_at_and (cleared a b) (bit_and a b) k
     ∙ ap (λ n. min n (bit_at (bit_and a b) k)) (cleared_bit a b k)
     ∙ ap (λ n. min ((bit_at a k + min (bit_at a k) (bit_at b k)) % 2) n) (bit_at_and a b k)
     ∙ bit_apart_both (bit_at a k) (bit_at b k) (bit_at-lt a k) (bit_at-lt b k) ∙ sym (bit_at-zero k))
 
+-- With what both have it is the whole set.
 cleared_whole : (a b : ℕ) → bit_or (cleared a b) (bit_and a b) ≡ a
 cleared_whole a b = same_from_bits _ _ (λ k. bit_at_or (cleared a b) (bit_and a b) k
     ∙ ap (λ n. max n (bit_at (bit_and a b) k)) (cleared_bit a b k)

@@ -22,7 +22,7 @@ use Rattle.ready_driver.specs.Registry.{AreKeyed}
 use Rattle.ready_driver.specs.Turns.{AreReported}
 use Rattle.op_job.specs.Met.{IsReached, IsWaiting, MissesNone, NamesMet, is_met}
 use Rattle.op_job.proofs.Naming.{turn_names}
-use Rattle.ring_core.proofs.Numbers.{below-or-not}
+use Rattle.machine.proofs.Numbers.{below-or-not}
 
 -- A list has each number that it contains.
 pub has_in : (xs : List ℕ) (t : ℕ) → Contains xs t → has_number t xs ≡ true

@@ -3,7 +3,7 @@ use Rattle.std.proofs.Common.{ℕ, ◌≤◌, ◌<◌, ◌-◌, arith, Bool, Lis
 use Rattle.std.specs.Prelude.{Result}
 use Rattle.rent_buf.specs.Parts.{Parts}
 use Rattle.rent_buf.specs.declared.fault.OutOfMemory.{OutOfMemory}
-use Rattle.ring_core.specs.declared.request.Request.{Request}
+use Rattle.machine.specs.declared.request.Request.{Request}
 use Rattle.core_exec.specs.declared.job.JobStep.{JobStep}
 use Rattle.core_exec.specs.declared.job.JobStep.TheVariants as step
 use Rattle.driver_core.specs.declared.op.Op.{Op}

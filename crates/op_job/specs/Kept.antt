@@ -3,8 +3,8 @@ use Rattle.std.specs.Prelude.{ℕ, ◌≡◌, ◌⊎◌, Bool, true, false, IsSo
 use Rattle.std.specs.FinMap as map
 use Rattle.std.specs.List.{Contains}
 use Rattle.rent_buf.specs.Buffer.{Buffer}
-use Rattle.ring_core.specs.Attempt.{is_readable_at}
-use Rattle.ring_core.specs.Lists.{has_number}
+use Rattle.machine.specs.Attempt.{is_readable_at}
+use Rattle.machine.specs.Lists.{has_number}
 use Rattle.core_exec.specs.declared.table.Task.{Task}
 use Rattle.core_exec.specs.declared.turn.Ran.{Ran}
 use Rattle.core_exec.specs.Tasks.{job_in}

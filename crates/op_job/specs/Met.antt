@@ -2,7 +2,7 @@
 -- `turn_ready` and `park`, and by the turns of other jobs.
 use Rattle.std.specs.Prelude.{ℕ, ◌≡◌, ◌≤◌, ◌⊎◌, Bool, true, false, IsTrue, IsSome, List, Option, None, Some}
 use Rattle.std.specs.List.{Contains}
-use Rattle.ring_core.specs.Attempt.{is_readable_at}
+use Rattle.machine.specs.Attempt.{is_readable_at}
 use Rattle.core_exec.specs.declared.table.Task.{Task}
 use Rattle.core_exec.specs.declared.turn.Ran.{Ran}
 use Rattle.core_exec.specs.Marks.{has_number}

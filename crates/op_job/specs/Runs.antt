@@ -3,8 +3,8 @@
 use Rattle.std.specs.Prelude.{ℕ, ◌≡◌, ◌≢◌, ◌≤◌, ◌<◌, ◌+◌, ◌⊎◌, Bool, true, false, not, ◌==◌, List, [], ◌∷◌, length, Result, Ok, Err}
 use Rattle.rent_buf.specs.Parts.{Parts}
 use Rattle.rent_buf.specs.declared.fault.OutOfMemory.{OutOfMemory as NoMemory}
-use Rattle.ring_core.specs.Request.{named}
-use Rattle.ring_core.specs.declared.request.Request.{Request}
+use Rattle.machine.specs.Request.{named}
+use Rattle.machine.specs.declared.request.Request.{Request}
 use Rattle.core_exec.specs.declared.job.JobStep.{JobStep}
 use Rattle.core_exec.specs.declared.job.JobStep.TheVariants as step
 use Rattle.driver_core.specs.declared.operations.TheConstants.{MOST_GIVEN}

@@ -2,7 +2,7 @@
 use Rattle.std.specs.Prelude.{ℕ, ◌≡◌, ◌≢◌, ◌⊎◌, false, List, [], ◌∷◌, Result, Ok}
 use Rattle.rent_buf.specs.Parts.{Parts}
 use Rattle.rent_buf.specs.declared.fault.OutOfMemory.{OutOfMemory}
-use Rattle.ring_core.specs.declared.request.Request.{Request}
+use Rattle.machine.specs.declared.request.Request.{Request}
 use Rattle.core_exec.specs.Marks.{has_number}
 use Rattle.driver_core.specs.declared.op.Op.{Op}
 use Rattle.driver_core.specs.declared.op.PollOp.{PollOp}

@@ -4,8 +4,8 @@ ghost use Rattle.op_job.specs.declared.follow.Next.{Next as Coming};
 ghost use Rattle.op_job.specs.declared.follow.OpEnd.{OpEnd as Ending};
 
 use driver_core::{Done, SubmitError};
+use machine::Request;
 use rent_buf::VecBuf;
-use ring_core::Request;
 
 /// How an operation of a job ended.
 #[derive(Drop)]

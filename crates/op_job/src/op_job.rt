@@ -9,9 +9,9 @@ ghost use Rattle.core_exec.specs.Job.{IfBack, IfPending, Steps};
 use crate::follow::{Follow, Next, Once, OpEnd};
 use core_exec::{Job, JobStep};
 use driver_core::{MOST_GIVEN, Op, PollOp, SubmitFault};
+use machine::Request;
 use op_driver::OpDriver;
 use rent_buf::{IoBufMut, OutOfMemory, VecBuf};
-use ring_core::Request;
 
 // What a job waits for.
 pub(crate) enum State<B> {

@@ -8,9 +8,9 @@ use Rattle.std.proofs.lemmas.List.{drop_at, length-drop, length-take, take-take,
 use Rattle.std.proofs.lemmas.Slice.Eq.{starts_is}
 use Rattle.rent_buf.specs.Rent.{Rented, buffer_of_rent}
 use Rattle.rent_buf.specs.declared.fault.IoFault.TheVariants.{InvalidData}
-use Rattle.ring_core.specs.declared.request.TheConstants.{MOST_ASKED}
-use Rattle.ring_core.specs.declared.request.Request.TheVariants.{Send}
-use Rattle.ring_core.specs.Request.{sent_of}
+use Rattle.machine.specs.declared.request.TheConstants.{MOST_ASKED}
+use Rattle.machine.specs.declared.request.Request.TheVariants.{Send}
+use Rattle.machine.specs.Request.{sent_of}
 use Rattle.pipe_job.specs.Course.{Coursed, IsRoom, IsWhole, ReceiveFault, received_in, sent_in}
 use Rattle.pipe_job.specs.declared.course.TheConstants.{MOST_MOVED}
 

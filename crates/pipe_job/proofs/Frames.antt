@@ -8,11 +8,11 @@ use Rattle.rent_buf.specs.Parts.{Parts}
 use Rattle.rent_buf.specs.Rent.{Rented, buffer_of_rent}
 use Rattle.rent_buf.specs.declared.fault.OutOfMemory.{OutOfMemory}
 use Rattle.op_slots.specs.declared.lifecycle.Lifecycle.TheVariants.{Submitted, Completed}
-use Rattle.ring_core.specs.declared.request.Request.{Request}
-use Rattle.ring_core.specs.declared.request.TheConstants.{CANCELED}
-use Rattle.ring_core.specs.declared.request.Outcome.{Outcome}
-use Rattle.ring_core.specs.declared.request.Outcome.TheVariants.{Fail}
-use Rattle.ring_core.specs.Request.{plain_request}
+use Rattle.machine.specs.declared.request.Request.{Request}
+use Rattle.machine.specs.declared.request.TheConstants.{CANCELED}
+use Rattle.machine.specs.declared.request.Outcome.{Outcome}
+use Rattle.machine.specs.declared.request.Outcome.TheVariants.{Fail}
+use Rattle.machine.specs.Request.{plain_request}
 use Rattle.driver_core.specs.declared.op.Op.{Op}
 use Rattle.driver_core.specs.declared.op.PollOp.{PollOp}
 use Rattle.driver_core.specs.declared.op.PollOp.TheVariants.{Pending, Ready}

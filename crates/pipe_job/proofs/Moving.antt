@@ -9,25 +9,25 @@ use Rattle.rent_buf.specs.Held.{HeldBuf}
 use Rattle.rent_buf.specs.Parts.{Parts}
 use Rattle.rent_buf.specs.Rent.{Rented, buffer_of_rent}
 use Rattle.rent_buf.specs.declared.held.Held.TheVariants.{One, Parts as InParts, Nothing}
-use Rattle.ring_core.specs.declared.request.Call.TheVariants.{In, Out}
-use Rattle.ring_core.specs.declared.request.Outcome.TheVariants.{Count}
-use Rattle.ring_core.specs.declared.request.Request.{Request}
-use Rattle.ring_core.specs.declared.request.Request.TheVariants.{Recv, ReadVec, Send, WriteVec, RecvMsg, SendMsg, Read, Write}
-use Rattle.ring_core.specs.declared.request.Request.TheVariants.{SpliceTo, SpliceFrom, Accept, Open, Connect, Fsync, PollAdd, MkDir, Rename}
-use Rattle.ring_core.specs.declared.request.Request.TheVariants.{Unlink}
-use Rattle.ring_core.specs.declared.request.Told.{Told}
-use Rattle.ring_core.specs.declared.request.Told.TheVariants as told
-use Rattle.ring_core.specs.declared.world.HandleKind.{HandleKind}
-use Rattle.ring_core.specs.declared.world.HandleKind.TheVariants.{Stream, Datagram, File, Pipe, Listener}
-use Rattle.ring_core.specs.declared.world.HandleState.{HandleState}
-use Rattle.ring_core.specs.Attempt.{answer_if, attempt, is_file_at, is_readable, reads_at_once}
-use Rattle.ring_core.specs.Effect.{sent_to_kind, with_sent, without_front}
-use Rattle.ring_core.specs.Lists.{amended, passes}
-use Rattle.ring_core.specs.Outcome.{is_spent, may_count, may_read, may_send}
-use Rattle.ring_core.specs.Request.{call_of, held, held_of, held_want, plain_request, sent_of}
-use Rattle.ring_core.specs.World.{gives_bytes, input_at, is_file, is_pipe, takes_bytes, takes_if}
-use Rattle.ring_core.specs.WorldCall.{call_effect}
-use Rattle.ring_core.proofs.Amended.{get-amended}
+use Rattle.machine.specs.declared.request.Call.TheVariants.{In, Out}
+use Rattle.machine.specs.declared.request.Outcome.TheVariants.{Count}
+use Rattle.machine.specs.declared.request.Request.{Request}
+use Rattle.machine.specs.declared.request.Request.TheVariants.{Recv, ReadVec, Send, WriteVec, RecvMsg, SendMsg, Read, Write}
+use Rattle.machine.specs.declared.request.Request.TheVariants.{SpliceTo, SpliceFrom, Accept, Open, Connect, Fsync, PollAdd, MkDir, Rename}
+use Rattle.machine.specs.declared.request.Request.TheVariants.{Unlink}
+use Rattle.machine.specs.declared.request.Told.{Told}
+use Rattle.machine.specs.declared.request.Told.TheVariants as told
+use Rattle.machine.specs.declared.world.HandleKind.{HandleKind}
+use Rattle.machine.specs.declared.world.HandleKind.TheVariants.{Stream, Datagram, File, Pipe, Listener}
+use Rattle.machine.specs.declared.world.HandleState.{HandleState}
+use Rattle.machine.specs.Attempt.{answer_if, attempt, is_file_at, is_readable, reads_at_once}
+use Rattle.machine.specs.Effect.{sent_to_kind, with_sent, without_front}
+use Rattle.machine.specs.Lists.{amended, passes}
+use Rattle.machine.specs.Outcome.{is_spent, may_count, may_read, may_send}
+use Rattle.machine.specs.Request.{call_of, held, held_of, held_want, plain_request, sent_of}
+use Rattle.machine.specs.World.{gives_bytes, input_at, is_file, is_pipe, takes_bytes, takes_if}
+use Rattle.machine.specs.WorldCall.{call_effect}
+use Rattle.machine.proofs.Amended.{get-amended}
 use Rattle.ready_driver.specs.Io.{IsMoved, MayEnd}
 use Rattle.pipe_job.specs.Causes.{HasEnded}
 use Rattle.pipe_job.specs.Course.{Coursed, IsNext}

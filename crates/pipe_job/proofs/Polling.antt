@@ -5,7 +5,7 @@ use Rattle.std.specs.FinMap as map
 use Rattle.handle_core.specs.Table.{Table, nobody}
 use Rattle.rent_buf.specs.Rent.{Rented, buffer_of_rent}
 use Rattle.rent_buf.specs.declared.fault.OutOfMemory.{OutOfMemory as NoMemory}
-use Rattle.ring_core.specs.Attempt.{is_file_at}
+use Rattle.machine.specs.Attempt.{is_file_at}
 use Rattle.driver_core.specs.Op.{number_of}
 use Rattle.driver_core.specs.Ops.{Ops}
 use Rattle.driver_core.specs.declared.op.Done.{Done}

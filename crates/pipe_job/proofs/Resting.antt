@@ -5,8 +5,8 @@ use Rattle.handle_core.specs.Table.{holders_at}
 use Rattle.rent_buf.specs.Parts.{Parts}
 use Rattle.rent_buf.specs.Rent.{Rented}
 use Rattle.rent_buf.specs.declared.fault.OutOfMemory.{OutOfMemory}
-use Rattle.ring_core.specs.Request.{named}
-use Rattle.ring_core.specs.declared.request.Request.{Request}
+use Rattle.machine.specs.Request.{named}
+use Rattle.machine.specs.declared.request.Request.{Request}
 use Rattle.driver_core.specs.Holds.{named_in, unheld_by, without_ops}
 use Rattle.driver_core.specs.Op.{AddsToken, DropsToken, Holds, KeepsTokens, number_of}
 use Rattle.driver_core.specs.Slot.{number_at}
@@ -56,6 +56,7 @@ rest_both old mid new wait further first own second = record {
   given = let a = first.given in let b = second.given in omega (arith, a, b);
 }
 
+-- What a job waits for behind two steps is its own, or new, if it is so behind each.
 pub own_both : (given later : ℕ) (wait further next : Wait) → given ≤ later → IsOwnOrNew given wait further
     → IsOwnOrNew later further next → IsOwnOrNew given wait next
 own_both given later wait further (Room room) more first second = tt
@@ -103,6 +104,7 @@ canceled_rest old new op (Ok done) does tokens given = record {
 }
 canceled_rest old new op (Err error) does tokens given = subst (λ d. LeavesRest old d (Waiting op)) (sym does) (same_rest old (Waiting op))
 
+-- So does asking for a cancel, whatever the job waits for.
 pub asked_rest : {I : Type 0} (old new : LegacyState I Rented) (wait : Wait) (result : Result Unit OutOfMemory)
     → AsksWait old new wait result → KeepsTokens (ops_in old) (ops_in new) → new.given ≡ old.given → LeavesRest old new wait
 asked_rest old new (Room room) result asks tokens given = subst (λ d. LeavesRest old d (Room room)) (sym asks.0) (same_rest old (Room room))

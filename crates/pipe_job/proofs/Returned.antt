@@ -6,20 +6,20 @@ use Rattle.std.specs.FinMap as map
 use Rattle.driver_core.proofs.Holds.{user-left}
 use Rattle.handle_core.specs.Table.{Table, holders_at, nobody}
 use Rattle.std.specs.Prelude.{unwrap_or}
-use Rattle.ring_core.specs.Request.{named}
+use Rattle.machine.specs.Request.{named}
 use Rattle.rent_buf.specs.Buffer.{Buffer}
 use Rattle.rent_buf.specs.Parts.{Parts}
 use Rattle.rent_buf.specs.Rent.{Rented, buffer_of_rent}
 use Rattle.rent_buf.specs.declared.fault.IoFault.{IoFault}
 use Rattle.rent_buf.specs.declared.fault.IoFault.TheVariants as fault
-use Rattle.ring_core.specs.declared.request.TheConstants.{CANCELED}
-use Rattle.ring_core.specs.declared.request.Outcome.{Outcome}
-use Rattle.ring_core.specs.declared.request.Outcome.TheVariants.{Count, From, Made, Fail}
-use Rattle.ring_core.specs.declared.request.Request.{Request}
-use Rattle.ring_core.specs.Attempt.{is_file_at}
-use Rattle.ring_core.specs.Effect.{made_by}
-use Rattle.ring_core.specs.Request.{plain_request}
-use Rattle.ring_core.specs.World.{input_at}
+use Rattle.machine.specs.declared.request.TheConstants.{CANCELED}
+use Rattle.machine.specs.declared.request.Outcome.{Outcome}
+use Rattle.machine.specs.declared.request.Outcome.TheVariants.{Count, From, Made, Fail}
+use Rattle.machine.specs.declared.request.Request.{Request}
+use Rattle.machine.specs.Attempt.{is_file_at}
+use Rattle.machine.specs.Effect.{made_by}
+use Rattle.machine.specs.Request.{plain_request}
+use Rattle.machine.specs.World.{input_at}
 use Rattle.driver_core.specs.declared.op.Done.{Done as Ended}
 use Rattle.driver_core.specs.declared.op.Op.{Op}
 use Rattle.driver_core.specs.declared.op.PollOp.TheVariants.{Ready}

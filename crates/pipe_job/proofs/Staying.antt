@@ -11,10 +11,10 @@ use Rattle.rent_buf.specs.declared.fault.OutOfMemory.{OutOfMemory}
 use Rattle.core_exec.specs.Job.{IfPending}
 use Rattle.core_exec.specs.declared.job.JobStep.{JobStep}
 use Rattle.core_exec.specs.declared.job.JobStep.TheVariants as job
-use Rattle.ring_core.proofs.Numbers.{same-or-not}
-use Rattle.ring_core.specs.Lists.{has_number}
-use Rattle.ring_core.specs.Request.{named}
-use Rattle.ring_core.specs.declared.request.Request.{Request}
+use Rattle.machine.proofs.Numbers.{same-or-not}
+use Rattle.machine.specs.Lists.{has_number}
+use Rattle.machine.specs.Request.{named}
+use Rattle.machine.specs.declared.request.Request.{Request}
 use Rattle.driver_core.proofs.Maps.{gone-other, gone-same, put-other}
 use Rattle.driver_core.specs.Holds.{named_in, unheld_by, without_ops}
 use Rattle.driver_core.specs.Op.{AddsToken, Holds, number_of}
@@ -229,6 +229,7 @@ asks_stay files memory old new course cancels (Room room) result asks fits =
     subst (λ d. KeepsWaiting files memory old d (Room room)) (sym asks.0) (same_stays files memory old (Room room))
 asks_stay files memory old new course cancels (Waiting op) result asks fits = canceled_stays files memory old new op result asks fits.0
 
+-- Asking for the cancel of a job leaves what another one waits for.
 pub asked_stays : {I : Type 0} (files : I → ℕ
     → Bool) (memory : Bool) (old new : LegacyState I Rented) (job : PipeJob) (result : Result Unit OutOfMemory)
     → AsksPipe old new job result → (s : ℕ) × FitsPipe old s job
@@ -263,6 +264,7 @@ asks_wait files memory old new pipe task (Waiting op) (Ok done) asks (inr (inr u
 asks_wait files memory old new pipe task (Waiting op) (Err error) asks waits = subst (λ d. WaitsWait files memory d pipe task
     (Waiting op)) (sym asks) waits
 
+-- And what the job itself waits for.
 pub asked_waits : {I : Type 0} (files : I → ℕ
     → Bool) (memory : Bool) (old new : LegacyState I Rented) (job next : PipeJob) (result : Result Unit OutOfMemory)
     → AsksPipe old new job result → next.wait ≡ job.wait → next.course.pipe ≡ job.course.pipe → (s : ℕ) → WaitsPipe files memory old s job
@@ -279,6 +281,7 @@ listed_waits files memory driver pipe task (Room room) awaits = awaits
 listed_waits files memory driver pipe task (Waiting op) (inl listed) = inl listed
 listed_waits files memory driver pipe task (Waiting op) (inr unreported) = inr (inr unreported)
 
+-- A job that is left pending waits as it says.
 pub left_waits : {I O : Type 0} (files : I → ℕ
     → Bool) (memory : Bool) (driver : LegacyState I Rented) (task : ℕ) (result : JobStep PipeJob O)
     → AwaitsJob files memory driver task result

@@ -8,8 +8,8 @@ use Rattle.rent_buf.specs.Rent.{Rented}
 use Rattle.rent_buf.specs.Counts.{Rose}
 use Rattle.rent_buf.specs.declared.fault.IoFault.{IoFault}
 use Rattle.rent_buf.specs.declared.fault.IoFault.TheVariants as fault
-use Rattle.ring_core.specs.declared.request.Request.{Request}
-use Rattle.ring_core.specs.World.{input_at}
+use Rattle.machine.specs.declared.request.Request.{Request}
+use Rattle.machine.specs.World.{input_at}
 use Rattle.driver_core.specs.declared.op.Op.{Op}
 use Rattle.driver_core.specs.declared.op.SubmitError.{SubmitError}
 use Rattle.driver_core.specs.declared.op.Submitted.TheVariants as submission

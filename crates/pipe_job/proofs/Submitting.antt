@@ -3,8 +3,8 @@ use Rattle.std.proofs.Common.{◌≡◌, ◌∙◌, ap, sym, subst, Bool, [], �
 use Rattle.std.specs.FinMap as map
 use Rattle.rent_buf.specs.Parts.{Parts}
 use Rattle.rent_buf.specs.Rent.{Rented, buffer_of_rent}
-use Rattle.ring_core.specs.declared.request.Request.{Request}
-use Rattle.ring_core.specs.Request.{named, plain_request}
+use Rattle.machine.specs.declared.request.Request.{Request}
+use Rattle.machine.specs.Request.{named, plain_request}
 use Rattle.driver_core.specs.declared.op.Op.{Op}
 use Rattle.driver_core.specs.declared.op.SubmitError.{SubmitError}
 use Rattle.driver_core.specs.declared.op.SubmitFault.{SubmitFault}

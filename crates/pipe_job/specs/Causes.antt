@@ -7,10 +7,10 @@ use Rattle.rent_buf.specs.declared.fault.IoFault.{IoFault}
 use Rattle.rent_buf.specs.declared.fault.IoFault.TheVariants.{Os, UnexpectedEof, WriteZero, InvalidData, ReadFault, WriteFault}
 use Rattle.rent_buf.specs.declared.fault.IoFault.TheVariants.{OutOfMemory as NoMemory}
 use Rattle.op_slots.specs.declared.slab.TheConstants.{MAX_LIVE}
-use Rattle.ring_core.specs.declared.request.TheConstants.{CANCELED}
-use Rattle.ring_core.specs.declared.world.HandleState.{HandleState}
-use Rattle.ring_core.specs.Lists.{passes}
-use Rattle.ring_core.specs.Outcome.{is_spent}
+use Rattle.machine.specs.declared.request.TheConstants.{CANCELED}
+use Rattle.machine.specs.declared.world.HandleState.{HandleState}
+use Rattle.machine.specs.Lists.{passes}
+use Rattle.machine.specs.Outcome.{is_spent}
 use Rattle.driver_core.specs.declared.operations.TheConstants.{MOST_GIVEN}
 use Rattle.ready_driver.specs.Awaits.{IsSlotUnmet}
 use Rattle.ready_driver.specs.Io.{IoView}

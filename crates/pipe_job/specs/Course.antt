@@ -6,11 +6,11 @@ use Rattle.rent_buf.specs.Rent.{Rented}
 use Rattle.rent_buf.specs.declared.held.Held.TheVariants.{One}
 use Rattle.rent_buf.specs.declared.fault.IoFault.{IoFault}
 use Rattle.rent_buf.specs.declared.fault.IoFault.TheVariants.{Os, UnexpectedEof, WriteZero, InvalidData}
-use Rattle.ring_core.specs.declared.request.Outcome.{Outcome}
-use Rattle.ring_core.specs.declared.request.Outcome.TheVariants.{Count, Fail}
-use Rattle.ring_core.specs.declared.request.Request.{Request}
-use Rattle.ring_core.specs.declared.request.Request.TheVariants.{Recv, Send}
-use Rattle.ring_core.specs.Request.{held_want, sent_of}
+use Rattle.machine.specs.declared.request.Outcome.{Outcome}
+use Rattle.machine.specs.declared.request.Outcome.TheVariants.{Count, Fail}
+use Rattle.machine.specs.declared.request.Request.{Request}
+use Rattle.machine.specs.declared.request.Request.TheVariants.{Recv, Send}
+use Rattle.machine.specs.Request.{held_want, sent_of}
 use Rattle.pipe_job.specs.declared.course.TheConstants.{MOST_MOVED}
 
 -- The pipe and the bytes of a job, how many of these it has sent, and how many of them it has received.

@@ -1,9 +1,9 @@
 -- What a poll of a job moves through its pipe, where the driver's object shows its handles. Cited by `PipeJob`.
 use Rattle.std.specs.Prelude.{ℕ, ◌≡◌, ◌≢◌, Bool, true, false, IsTrue, List, [], ◌++◌}
 use Rattle.rent_buf.specs.Rent.{Rented}
-use Rattle.ring_core.specs.declared.world.HandleState.{HandleState}
-use Rattle.ring_core.specs.Attempt.{kind_at}
-use Rattle.ring_core.specs.World.{input_at, is_pipe}
+use Rattle.machine.specs.declared.world.HandleState.{HandleState}
+use Rattle.machine.specs.Attempt.{kind_at}
+use Rattle.machine.specs.World.{input_at, is_pipe}
 use Rattle.ready_driver.specs.declared.ready.Direction.{Direction}
 use Rattle.ready_driver.specs.declared.ready.Direction.TheVariants.{Read, Write}
 use Rattle.ready_driver.specs.Io.{IoView}

@@ -1,13 +1,13 @@
 // How far a job came: what it has sent of its bytes, and received.
 ghost use Rattle.std.specs.Prelude.{◌≡◌, ◌<◌, ◌≤◌, ◌+◌, ◌++◌, ◌↔◌, length, take, drop, min, IsTrue, IfOk, IfErr, OnOk};
 ghost use Rattle.rent_buf.specs.Rent.{buffer_of_rent};
-ghost use Rattle.ring_core.specs.Request.{plain_request};
+ghost use Rattle.machine.specs.Request.{plain_request};
 ghost use Rattle.pipe_job.specs.Course.{BringsOn, FailsBy, IsNext, IsRoom, IsSameBytes, IsWhole, ReceiveFault, SendFault, left_of};
 ghost use Rattle.pipe_job.specs.Course.{received_in};
 
 use driver_core::Done;
+use machine::{Outcome, Request, SharedFd};
 use rent_buf::{ByteList, IoFault, Rent, VecBuf};
-use ring_core::{Outcome, Request, SharedFd};
 use std::marker::Model;
 
 /// The most bytes of one operation of a job.

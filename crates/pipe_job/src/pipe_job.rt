@@ -14,9 +14,9 @@ ghost use Rattle.pipe_job.specs.Waits.{FitsWait, HoldsWait, IsGoneWait, KeepsApa
 use crate::course::Course;
 use crate::step::{Step, Wait, advance, drop_op};
 use core_exec::{Job, JobStep};
+use machine::SharedFd;
 use ready_driver::{LegacyDriver, NonBlock};
 use rent_buf::{ByteList, IoFault, OutOfMemory, Rent};
-use ring_core::SharedFd;
 
 /// A job that sends its bytes into a pipe, and then receives as many from it. It is done with what it received, or with why it failed. Its
 /// bytes stay in it, so each operation moves a copy of at most 4096 of them, in memory that is used again.

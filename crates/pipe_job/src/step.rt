@@ -1,6 +1,6 @@
 // One step of a poll: a submission, or the poll of an operation.
 ghost use Rattle.std.specs.Prelude.{◌<◌, ◌+◌, None, IsTrue, IfOk, IfErr};
-ghost use Rattle.ring_core.specs.Request.{named};
+ghost use Rattle.machine.specs.Request.{named};
 ghost use Rattle.driver_core.specs.Op.{AddsToken, Holds};
 ghost use Rattle.ready_driver.specs.LegacyState.{holds_all, ops_in};
 ghost use Rattle.ready_driver.specs.LegacyCalls.{JoinsOp, SubmitRefused};
@@ -15,9 +15,9 @@ ghost use Rattle.pipe_job.specs.Waits.{FitsWait, IfBack, IfAgain, KeepsApart, St
 
 use crate::course::Course;
 use driver_core::{Done, MOST_GIVEN, Op, PollOp, SubmitError, SubmitFault, Submitted};
+use machine::{CANCELED, Request};
 use ready_driver::{LegacyDriver, NonBlock};
 use rent_buf::{IoFault, Rent, VecBuf};
-use ring_core::{CANCELED, Request};
 
 /// The error of a job whose pipe its user doesn't hold. (Linux: `EBADF`)
 pub const NOT_HELD: u16 = 9;

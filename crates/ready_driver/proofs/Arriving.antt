@@ -2,19 +2,19 @@
 use Rattle.std.proofs.Common.{◌≡◌, ℕ, ◌≤◌, ◌||◌, Bool, true, false, not, List, Option, None, refl, sym, ◌∙◌, ap, subst}
 use Rattle.std.specs.Prelude.{slice_get, Result, Ok, Err}
 use Rattle.rent_buf.specs.Buffer.{Buffer}
-use Rattle.ring_core.specs.declared.world.HandleState.{HandleState}
-use Rattle.ring_core.specs.declared.world.WorldError.{WorldError}
-use Rattle.ring_core.specs.declared.world.WorldError.TheVariants.{BadHandleEvent, OutOfMemory}
-use Rattle.ring_core.specs.declared.ledger.Event.TheVariants.{Feed, FeedMessage, End}
-use Rattle.ring_core.specs.declared.ledger.Reply.TheVariants.{Fed, Ended}
-use Rattle.ring_core.specs.declared.ledger.Refusal.{Refusal}
-use Rattle.ring_core.specs.declared.ledger.Refusal.TheVariants.{NoHandle, BadHandleEvent as NotTaken}
-use Rattle.ring_core.specs.declared.entry.TheConstants.{MOST_HANDLES}
-use Rattle.ring_core.specs.Lists.{amended, passes}
-use Rattle.ring_core.specs.Refusal.{refused_if}
-use Rattle.ring_core.specs.World.{with_input, with_message, with_end, refuses_feed, refuses_message, refuses_end}
-use Rattle.ring_core.specs.World.{WorldFeeds, WorldFeedsMessage, WorldEnds}
-use Rattle.ring_core.proofs.Amended.{length-amended}
+use Rattle.machine.specs.declared.world.HandleState.{HandleState}
+use Rattle.machine.specs.declared.world.WorldError.{WorldError}
+use Rattle.machine.specs.declared.world.WorldError.TheVariants.{BadHandleEvent, OutOfMemory}
+use Rattle.machine.specs.declared.ledger.Event.TheVariants.{Feed, FeedMessage, End}
+use Rattle.machine.specs.declared.ledger.Reply.TheVariants.{Fed, Ended}
+use Rattle.machine.specs.declared.ledger.Refusal.{Refusal}
+use Rattle.machine.specs.declared.ledger.Refusal.TheVariants.{NoHandle, BadHandleEvent as NotTaken}
+use Rattle.machine.specs.declared.world.TheConstants.{MOST_HANDLES}
+use Rattle.machine.specs.Lists.{amended, passes}
+use Rattle.machine.specs.Refusal.{refused_if}
+use Rattle.machine.specs.World.{with_input, with_message, with_end, refuses_feed, refuses_message, refuses_end}
+use Rattle.machine.specs.World.{WorldFeeds, WorldFeedsMessage, WorldEnds}
+use Rattle.machine.proofs.Amended.{length-amended}
 use Rattle.ready_driver.specs.Legacy.{Legacy, holds_at}
 use Rattle.ready_driver.specs.LegacyHandles.{FeedsFor, FeedsMessageFor, EndsFor}
 use Rattle.ready_driver.specs.LegacyStands.{LegacyStands}

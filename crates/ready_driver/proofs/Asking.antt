@@ -5,13 +5,13 @@ use Rattle.std.specs.Prelude.{is_some, unwrap_or}
 use Rattle.std.specs.FinMap.{get, len}
 use Rattle.rent_buf.specs.Buffer.{Buffer}
 use Rattle.cancel_core.specs.Group.{group_at}
-use Rattle.ring_core.specs.declared.ledger.Event.TheVariants.{CancelAll}
-use Rattle.ring_core.specs.declared.ledger.Refusal.TheVariants.{NoCanceller}
-use Rattle.ring_core.specs.declared.ledger.Reply.TheVariants.{Cancels}
-use Rattle.ring_core.specs.Lists.{amended, numbers_where}
-use Rattle.ring_core.specs.Refusal.{refused_if}
-use Rattle.ring_core.specs.Step.{group_of}
-use Rattle.ring_core.proofs.Where.{where-kept}
+use Rattle.machine.specs.declared.ledger.Event.TheVariants.{CancelAll}
+use Rattle.machine.specs.declared.ledger.Refusal.TheVariants.{NoCanceller}
+use Rattle.machine.specs.declared.ledger.Reply.TheVariants.{Cancels}
+use Rattle.machine.specs.Lists.{amended, numbers_where}
+use Rattle.machine.specs.Refusal.{refused_if}
+use Rattle.machine.specs.Step.{group_of}
+use Rattle.machine.proofs.Where.{where-kept}
 use Rattle.driver_core.specs.declared.members.places.Place.{Place}
 use Rattle.driver_core.specs.Groups.{AreInSlots}
 use Rattle.driver_core.specs.Members.{Membership, key_at, cancels}

@@ -4,13 +4,13 @@ use Rattle.std.proofs.Common.{◌≡◌, inl, inr, ℕ, Bool, true, false, ◌||
 use Rattle.std.proofs.Common.{slice_get, refl, sym, ◌∙◌, ap, subst, if◌then◌else◌, ◌==◌}
 use Rattle.std.proofs.Math.Bool.{or-true, or-false}
 use Rattle.std.proofs.lemmas.Bool.Decides.{eqb_tells}
-use Rattle.ring_core.specs.Lists.{amended, passes}
-use Rattle.ring_core.specs.Ledger.{Ledger, Operation, Place, InQueue, InFlight, InDone, Reaped, Gone, Queued, Req, Cancel}
-use Rattle.ring_core.specs.Queue.{with_op, canceled_at, with_take, with_cancel, take_all, make_room, append}
-use Rattle.ring_core.proofs.Amended.{changed-cases, joined-cases, there-before}
-use Rattle.ring_core.proofs.Taken.{length-take_each}
-use Rattle.ring_core.proofs.Taking.{Listed}
-use Rattle.ring_core.proofs.Listed.{joined}
+use Rattle.machine.specs.Lists.{amended, passes}
+use Rattle.machine.specs.Ledger.{Ledger, Operation, Place, InQueue, InFlight, InDone, Reaped, Gone, Queued, Req, Cancel}
+use Rattle.machine.specs.Queue.{with_op, canceled_at, with_take, with_cancel, take_all, make_room, append}
+use Rattle.machine.proofs.Amended.{changed-cases, joined-cases, there-before}
+use Rattle.machine.proofs.Taken.{length-take_each}
+use Rattle.machine.proofs.Taking.{Listed}
+use Rattle.machine.proofs.Listed.{joined}
 use Rattle.ready_driver.specs.Spelled.{asked, has_cancel}
 use Rattle.ready_driver.proofs.Free.{Free, AllFree}
 use Rattle.ready_driver.proofs.Flat.{take-none, flat-queue, flat-append, flat-joined, Unmoved, flat-changed}

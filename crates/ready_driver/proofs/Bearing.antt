@@ -1,7 +1,7 @@
 -- What showed handles of a world in memory shows them still, through each change of their records, their holders and their object.
 use Rattle.std.proofs.Common.{◌≡◌, ◌≢◌, inl, inr, ℕ, Option, Some, None, refl, sym, ◌∙◌, ap, subst}
 use Rattle.std.specs.Prelude.{unwrap_or, option_map}
-use Rattle.ring_core.proofs.Numbers.{same-or-not}
+use Rattle.machine.proofs.Numbers.{same-or-not}
 use Rattle.ready_driver.specs.declared.records.Record.{Record}
 use Rattle.ready_driver.specs.Io.{IoView, IsDue, IsShown, KeepsShown}
 use Rattle.ready_driver.specs.Records.{Kept, quiet, record_at, io_at, changed, with_io}

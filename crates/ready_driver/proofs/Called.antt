@@ -6,28 +6,28 @@ use Rattle.std.proofs.lemmas.List.{length-append, length-take-le}
 use Rattle.rent_buf.specs.Buffer.{Buffer}
 use Rattle.rent_buf.specs.Parts.{Parts}
 use Rattle.rent_buf.specs.Counts.{Rose}
-use Rattle.ring_core.specs.declared.request.Request.{Request}
-use Rattle.ring_core.specs.declared.request.Request.TheVariants.{Recv, ReadVec, Send, WriteVec, RecvMsg, SendMsg, Read, Write}
-use Rattle.ring_core.specs.declared.request.Request.TheVariants.{SpliceTo, SpliceFrom, Accept, Open, Connect, Fsync, PollAdd, MkDir, Rename}
-use Rattle.ring_core.specs.declared.request.Request.TheVariants.{Unlink}
-use Rattle.ring_core.specs.declared.request.Told.{Told}
-use Rattle.ring_core.specs.declared.request.Told.TheVariants.{Count, Fail}
-use Rattle.ring_core.specs.declared.request.Outcome.{Outcome}
-use Rattle.ring_core.specs.declared.request.Outcome.TheVariants.{Count as Counted, From, Made, Fail as Failed}
-use Rattle.ring_core.specs.declared.world.HandleState.{HandleState}
-use Rattle.ring_core.specs.Request.{named, call_of, makes, held_of, held_want, held_after, held, sent_of, IsHolding}
-use Rattle.ring_core.specs.Outcome.{may_count}
-use Rattle.ring_core.specs.declared.world.WorldError.{WorldError}
-use Rattle.ring_core.specs.declared.world.WorldError.TheVariants.{BadHandleEvent, OutOfMemory}
-use Rattle.ring_core.specs.World.{input_at, messages_at, with_end, Arrives, WorldEnds}
-use Rattle.ring_core.specs.Effect.{count_effect, message_effect, made_by}
-use Rattle.ring_core.specs.Attempt.{attempt, greatest, first_length}
-use Rattle.ring_core.specs.WorldCall.{IsCalled, call_effect}
-use Rattle.ring_core.proofs.Requests.{holding-same, made-makes}
-use Rattle.ring_core.proofs.Amended.{length-amended}
-use Rattle.ring_core.proofs.Turning.{grows-effect}
-use Rattle.ring_core.proofs.Attempting.{attempt_allowed}
-use Rattle.ring_core.proofs.Greatest.{greatest_count}
+use Rattle.machine.specs.declared.request.Request.{Request}
+use Rattle.machine.specs.declared.request.Request.TheVariants.{Recv, ReadVec, Send, WriteVec, RecvMsg, SendMsg, Read, Write}
+use Rattle.machine.specs.declared.request.Request.TheVariants.{SpliceTo, SpliceFrom, Accept, Open, Connect, Fsync, PollAdd, MkDir, Rename}
+use Rattle.machine.specs.declared.request.Request.TheVariants.{Unlink}
+use Rattle.machine.specs.declared.request.Told.{Told}
+use Rattle.machine.specs.declared.request.Told.TheVariants.{Count, Fail}
+use Rattle.machine.specs.declared.request.Outcome.{Outcome}
+use Rattle.machine.specs.declared.request.Outcome.TheVariants.{Count as Counted, From, Made, Fail as Failed}
+use Rattle.machine.specs.declared.world.HandleState.{HandleState}
+use Rattle.machine.specs.Request.{named, call_of, makes, held_of, held_want, held_after, held, sent_of, IsHolding}
+use Rattle.machine.specs.Outcome.{may_count}
+use Rattle.machine.specs.declared.world.WorldError.{WorldError}
+use Rattle.machine.specs.declared.world.WorldError.TheVariants.{BadHandleEvent, OutOfMemory}
+use Rattle.machine.specs.World.{input_at, messages_at, with_end, Arrives, WorldEnds}
+use Rattle.machine.specs.Effect.{count_effect, message_effect, made_by}
+use Rattle.machine.specs.Attempt.{attempt, greatest, first_length}
+use Rattle.machine.specs.WorldCall.{IsCalled, call_effect}
+use Rattle.machine.proofs.Requests.{holding-same, made-makes}
+use Rattle.machine.proofs.Amended.{length-amended}
+use Rattle.machine.proofs.Turning.{grows-effect}
+use Rattle.machine.proofs.Attempting.{attempt_allowed}
+use Rattle.machine.proofs.Greatest.{greatest_count}
 use Rattle.ready_driver.specs.Io.{FailRose, made_after, IsFilled, EndsFor, MayEnd, IsMoved, IsMade, KeepsShown, AreDue, CallsFor}
 use Rattle.driver_core.specs.declared.operations.calls.CallAnswer.TheVariants.{WouldBlock}
 use Rattle.ready_driver.specs.MemIo.{Memory, memory_view}

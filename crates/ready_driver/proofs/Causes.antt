@@ -4,21 +4,21 @@ use Rattle.std.proofs.Common.{refl, sym, ◌∙◌, ap, if◌then◌else◌, ◌
 use Rattle.std.specs.Prelude.{nat_le, is_some}
 use Rattle.rent_buf.specs.Buffer.{Buffer}
 use Rattle.rent_buf.specs.Parts.{Parts}
-use Rattle.ring_core.specs.declared.request.Request.{Request}
-use Rattle.ring_core.specs.declared.ledger.TheConstants.{MOST_LIVE}
-use Rattle.ring_core.specs.declared.ledger.Event.{Event}
-use Rattle.ring_core.specs.declared.ledger.Event.TheVariants.{Give, Feed, FeedMessage, End, Look, Close, Submit, Poll, Drop, Cancel}
-use Rattle.ring_core.specs.declared.ledger.Event.TheVariants.{NewCanceller, NewHandle, CancelAll, Turn, Exec}
-use Rattle.ring_core.specs.declared.ledger.Refusal.TheVariants.{NoOp, NoCanceller, NoHandle, Full, BadHandleEvent}
-use Rattle.ring_core.specs.Lists.{numbers_where, passes}
-use Rattle.ring_core.specs.Request.{named}
-use Rattle.ring_core.specs.Ledger.{Ledger, Operation, Owner, Place, InQueue, InFlight, InDone, Reaped, Gone, empty, is_live, is_kept}
-use Rattle.ring_core.specs.Ledger.{is_owned}
-use Rattle.ring_core.specs.Ledger.{user_holds, is_marked, is_member, is_under_marked, group_under, members}
-use Rattle.ring_core.specs.Queue.{take_all}
-use Rattle.ring_core.specs.Refusal.{cause, refused_if, lacks_handle, has_no_canceller, has_bad_handle_event}
-use Rattle.ring_core.proofs.Amended.{get-map}
-use Rattle.ring_core.proofs.Taking.{Took, take_all-ops, taken_place, with_taking}
+use Rattle.machine.specs.declared.request.Request.{Request}
+use Rattle.machine.specs.declared.ledger.TheConstants.{MOST_LIVE}
+use Rattle.machine.specs.declared.ledger.Event.{Event}
+use Rattle.machine.specs.declared.ledger.Event.TheVariants.{Give, Feed, FeedMessage, End, Look, Close, Submit, Poll, Drop, Cancel}
+use Rattle.machine.specs.declared.ledger.Event.TheVariants.{NewCanceller, NewHandle, CancelAll, Turn, Exec}
+use Rattle.machine.specs.declared.ledger.Refusal.TheVariants.{NoOp, NoCanceller, NoHandle, Full, BadHandleEvent}
+use Rattle.machine.specs.Lists.{numbers_where, passes}
+use Rattle.machine.specs.Request.{named}
+use Rattle.machine.specs.Ledger.{Ledger, Operation, Owner, Place, InQueue, InFlight, InDone, Reaped, Gone, empty, is_live, is_kept}
+use Rattle.machine.specs.Ledger.{is_owned}
+use Rattle.machine.specs.Ledger.{user_holds, is_marked, is_member, is_under_marked, group_under, members}
+use Rattle.machine.specs.Queue.{take_all}
+use Rattle.machine.specs.Refusal.{cause, refused_if, lacks_handle, has_no_canceller, has_bad_handle_event}
+use Rattle.machine.proofs.Amended.{get-map}
+use Rattle.machine.proofs.Taking.{Took, take_all-ops, taken_place, with_taking}
 use Rattle.ready_driver.specs.Legacy.{LegacyOp, Legacy, seen, slot_in, slot_at, holds_at, is_under_at, members_at}
 use Rattle.ready_driver.specs.LegacyStep.{misses_handle, has_no_room, legacy_cause}
 use Rattle.ready_driver.specs.Readiness.{IsDriven, slot_by}

@@ -4,19 +4,19 @@ use Rattle.std.proofs.Common.{refl, sym, ◌∙◌, ap, arith, slice_get}
 use Rattle.std.proofs.lemmas.Bool.{lt-leb}
 use Rattle.std.proofs.lemmas.List.{append_assoc, append-nil, length-append}
 use Rattle.std.proofs.lemmas.Option.{slice_get_within}
-use Rattle.ring_core.specs.declared.request.Told.TheVariants.{Count}
-use Rattle.ring_core.specs.declared.ledger.Event.{Event}
-use Rattle.ring_core.specs.declared.ledger.Event.TheVariants.{Turn, Exec}
-use Rattle.ring_core.specs.declared.ledger.Refusal.TheVariants.{NotFlying, Waiting, BadOutcome}
-use Rattle.ring_core.specs.Lists.{passes}
-use Rattle.ring_core.specs.Ledger.{Ledger, Queued, Req, Cancel, Item, Op}
-use Rattle.ring_core.specs.Refusal.{cause, refused_if, waits, allowed}
-use Rattle.ring_core.specs.Queue.{take_all}
-use Rattle.ring_core.specs.Turn.{reap_each, reap_all, exec_step}
-use Rattle.ring_core.specs.Step.{step}
-use Rattle.ring_core.specs.Run.{after}
-use Rattle.ring_core.proofs.Taken.{done-take_each}
-use Rattle.ring_core.proofs.Stepping.{step-row}
+use Rattle.machine.specs.declared.request.Told.TheVariants.{Count}
+use Rattle.machine.specs.declared.ledger.Event.{Event}
+use Rattle.machine.specs.declared.ledger.Event.TheVariants.{Turn, Exec}
+use Rattle.machine.specs.declared.ledger.Refusal.TheVariants.{NotFlying, Waiting, BadOutcome}
+use Rattle.machine.specs.Lists.{passes}
+use Rattle.machine.specs.Ledger.{Ledger, Queued, Req, Cancel, Item, Op}
+use Rattle.machine.specs.Refusal.{cause, refused_if, waits, allowed}
+use Rattle.machine.specs.Queue.{take_all}
+use Rattle.machine.specs.Turn.{reap_each, reap_all, exec_step}
+use Rattle.machine.specs.Step.{step}
+use Rattle.machine.specs.Run.{after}
+use Rattle.machine.proofs.Taken.{done-take_each}
+use Rattle.machine.proofs.Stepping.{step-row}
 use Rattle.ready_driver.specs.Spelled.{has_close, close_execs}
 use Rattle.ready_driver.proofs.Flat.{take-none, flat-queue}
 

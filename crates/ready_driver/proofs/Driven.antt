@@ -9,15 +9,15 @@ use Rattle.std.proofs.lemmas.List.{length-map}
 use Rattle.std.proofs.lemmas.Option.{slice_get_within}
 use Rattle.rent_buf.specs.Buffer.{Buffer}
 use Rattle.handle_core.specs.Table.{Table}
-use Rattle.ring_core.specs.declared.entry.TheConstants.{MOST_HANDLES}
-use Rattle.ring_core.specs.declared.ledger.Event.{Event}
-use Rattle.ring_core.specs.declared.ledger.Event.TheVariants.{NewHandle}
-use Rattle.ring_core.specs.declared.ledger.Refusal.TheVariants.{NoCanceller}
-use Rattle.ring_core.specs.declared.ledger.Reply.{Reply}
-use Rattle.ring_core.specs.declared.ledger.Reply.TheVariants.{CancelHandle}
-use Rattle.ring_core.specs.Lists.{numbers_where, passes}
-use Rattle.ring_core.specs.Refusal.{refused_if}
-use Rattle.ring_core.specs.Step.{group_of}
+use Rattle.machine.specs.declared.world.TheConstants.{MOST_HANDLES}
+use Rattle.machine.specs.declared.ledger.Event.{Event}
+use Rattle.machine.specs.declared.ledger.Event.TheVariants.{NewHandle}
+use Rattle.machine.specs.declared.ledger.Refusal.TheVariants.{NoCanceller}
+use Rattle.machine.specs.declared.ledger.Reply.{Reply}
+use Rattle.machine.specs.declared.ledger.Reply.TheVariants.{CancelHandle}
+use Rattle.machine.specs.Lists.{numbers_where, passes}
+use Rattle.machine.specs.Refusal.{refused_if}
+use Rattle.machine.specs.Step.{group_of}
 use Rattle.driver_core.specs.declared.slot.Slot.{Slot}
 use Rattle.driver_core.specs.Members.{Membership, with_fresh}
 use Rattle.driver_core.specs.Ops.{Ops}

@@ -1,23 +1,23 @@
 -- What a readiness driver answers to the drop of an operation, and the ledger behind it as it is spelled.
 use Rattle.std.proofs.Common.{◌≡◌, ℕ, true, not, ◌&&◌, [], ◌∷◌, ◌++◌, length, remove, Some, None, option_map}
 use Rattle.std.proofs.Common.{slice_get, refl, ◌∙◌, ap, arith}
-use Rattle.ring_core.specs.declared.request.TheConstants.{CANCELED}
-use Rattle.ring_core.specs.declared.request.Told.TheVariants.{Fail}
-use Rattle.ring_core.specs.declared.ledger.Event.TheVariants.{Drop, Turn, Exec}
-use Rattle.ring_core.specs.declared.ledger.Refusal.TheVariants.{NoOp}
-use Rattle.ring_core.specs.declared.ledger.Reply.TheVariants.{Dropped}
-use Rattle.ring_core.specs.Lists.{amended, passes}
-use Rattle.ring_core.specs.Effect.{Effect}
-use Rattle.ring_core.specs.Ledger.{Ledger, Operation, Place, InQueue, InFlight, InDone, Reaped, Gone, Queued, is_kept}
-use Rattle.ring_core.specs.Queue.{with_op, canceled_at, with_cancel, take_one, take_all, push, leave}
-use Rattle.ring_core.specs.Refusal.{refused_if}
-use Rattle.ring_core.specs.Turn.{with_result, effect_of}
-use Rattle.ring_core.specs.Step.{step, with_drop, drop_at, drop_step}
-use Rattle.ring_core.specs.Run.{after}
-use Rattle.ring_core.proofs.Amended.{get-amended}
-use Rattle.ring_core.proofs.Taking.{taken_place}
-use Rattle.ring_core.proofs.Staying.{stays-push}
-use Rattle.ring_core.proofs.Stepping.{step-row, OwnedAt}
+use Rattle.machine.specs.declared.request.TheConstants.{CANCELED}
+use Rattle.machine.specs.declared.request.Told.TheVariants.{Fail}
+use Rattle.machine.specs.declared.ledger.Event.TheVariants.{Drop, Turn, Exec}
+use Rattle.machine.specs.declared.ledger.Refusal.TheVariants.{NoOp}
+use Rattle.machine.specs.declared.ledger.Reply.TheVariants.{Dropped}
+use Rattle.machine.specs.Lists.{amended, passes}
+use Rattle.machine.specs.Effect.{Effect}
+use Rattle.machine.specs.Ledger.{Ledger, Operation, Place, InQueue, InFlight, InDone, Reaped, Gone, Queued, is_kept}
+use Rattle.machine.specs.Queue.{with_op, canceled_at, with_cancel, take_one, take_all, push, leave}
+use Rattle.machine.specs.Refusal.{refused_if}
+use Rattle.machine.specs.Turn.{with_result, effect_of}
+use Rattle.machine.specs.Step.{step, with_drop, drop_at, drop_step}
+use Rattle.machine.specs.Run.{after}
+use Rattle.machine.proofs.Amended.{get-amended}
+use Rattle.machine.proofs.Taking.{taken_place}
+use Rattle.machine.proofs.Staying.{stays-push}
+use Rattle.machine.proofs.Stepping.{step-row, OwnedAt}
 use Rattle.driver_core.proofs.Lists.{amended-twice}
 use Rattle.ready_driver.specs.Spelled.{place_of, spelled_out, spelled_reply, drop_spelling, row_spelling}
 use Rattle.ready_driver.specs.Legacy.{Legacy}

@@ -7,19 +7,19 @@ use Rattle.rent_buf.specs.Parts.{Parts}
 use Rattle.op_slots.specs.Lifecycle.{polled}
 use Rattle.op_slots.specs.declared.lifecycle.Lifecycle.{Lifecycle}
 use Rattle.op_slots.specs.declared.lifecycle.Lifecycle.TheVariants.{Submitted, Waiting, Ignored, Completed}
-use Rattle.ring_core.specs.declared.request.TheConstants.{CANCELED}
-use Rattle.ring_core.specs.declared.request.Outcome.{Outcome}
-use Rattle.ring_core.specs.declared.request.Outcome.TheVariants.{Fail}
-use Rattle.ring_core.specs.declared.request.Told.{Told}
-use Rattle.ring_core.specs.declared.request.Request.{Request}
-use Rattle.ring_core.specs.declared.entry.Completion.{Completion}
-use Rattle.ring_core.specs.declared.world.HandleState.{HandleState}
-use Rattle.ring_core.specs.declared.ledger.Reply.TheVariants.{Pending as Waits, Handed}
-use Rattle.ring_core.specs.Request.{plain_request, call_of, held_of, held}
-use Rattle.ring_core.specs.Effect.{Effect}
-use Rattle.ring_core.specs.Attempt.{attempt}
-use Rattle.ring_core.specs.WorldCall.{IsCalled, call_effect}
-use Rattle.ring_core.proofs.Amended.{length-amended}
+use Rattle.machine.specs.declared.request.TheConstants.{CANCELED}
+use Rattle.machine.specs.declared.request.Outcome.{Outcome}
+use Rattle.machine.specs.declared.request.Outcome.TheVariants.{Fail}
+use Rattle.machine.specs.declared.request.Told.{Told}
+use Rattle.machine.specs.declared.request.Request.{Request}
+use Rattle.machine.specs.declared.completion.Completion.{Completion}
+use Rattle.machine.specs.declared.world.HandleState.{HandleState}
+use Rattle.machine.specs.declared.ledger.Reply.TheVariants.{Pending as Waits, Handed}
+use Rattle.machine.specs.Request.{plain_request, call_of, held_of, held}
+use Rattle.machine.specs.Effect.{Effect}
+use Rattle.machine.specs.Attempt.{attempt}
+use Rattle.machine.specs.WorldCall.{IsCalled, call_effect}
+use Rattle.machine.proofs.Amended.{length-amended}
 use Rattle.driver_core.specs.declared.slot.Slot.{Slot}
 use Rattle.driver_core.specs.declared.op.Done.{Done}
 use Rattle.driver_core.specs.declared.operations.calls.CallAnswer.{CallAnswer}

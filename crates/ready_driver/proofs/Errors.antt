@@ -4,12 +4,12 @@ use Rattle.std.specs.Prelude.{is_some, nat_le, ◌||◌}
 use Rattle.std.specs.FinMap.{get}
 use Rattle.rent_buf.specs.Counts.{Rose}
 use Rattle.handle_core.specs.Table.{Table}
-use Rattle.ring_core.specs.declared.entry.TheConstants.{MOST_HANDLES}
-use Rattle.ring_core.specs.declared.request.TheConstants.{CANCELED}
-use Rattle.ring_core.specs.declared.request.Outcome.{Outcome}
-use Rattle.ring_core.specs.declared.request.Outcome.TheVariants.{Count, From, Made, Fail}
-use Rattle.ring_core.specs.declared.world.call.TheConstants.{INVALID}
-use Rattle.ring_core.specs.Effect.{made_by}
+use Rattle.machine.specs.declared.world.TheConstants.{MOST_HANDLES}
+use Rattle.machine.specs.declared.request.TheConstants.{CANCELED}
+use Rattle.machine.specs.declared.request.Outcome.{Outcome}
+use Rattle.machine.specs.declared.request.Outcome.TheVariants.{Count, From, Made, Fail}
+use Rattle.machine.specs.declared.world.call.TheConstants.{INVALID}
+use Rattle.machine.specs.Effect.{made_by}
 use Rattle.driver_core.specs.declared.slot.Slot.{Slot}
 use Rattle.ready_driver.specs.Errors.{IsCounted, IsCanceledWith, ErrorFor}
 use Rattle.ready_driver.specs.Io.{IoView}

@@ -10,19 +10,19 @@ use Rattle.rent_buf.specs.Buffer.{Buffer}
 use Rattle.rent_buf.specs.Parts.{Parts}
 use Rattle.handle_core.specs.Table.{Table}
 use Rattle.op_slots.specs.declared.slab.TheConstants.{MAX_LIVE}
-use Rattle.ring_core.specs.declared.ledger.TheConstants.{MOST_LIVE}
-use Rattle.ring_core.specs.declared.ledger.Event.TheVariants.{Submit, Drop, Cancel}
-use Rattle.ring_core.specs.declared.ledger.Refusal.{Refusal}
-use Rattle.ring_core.specs.declared.ledger.Refusal.TheVariants.{NoOp, NoCanceller, NoHandle, Full}
-use Rattle.ring_core.specs.declared.ledger.Reply.TheVariants.{Submitted as Given, CanceledAtOnce, Asked, Dropped}
-use Rattle.ring_core.specs.declared.request.Request.{Request}
-use Rattle.ring_core.specs.Lists.{passes}
-use Rattle.ring_core.specs.Ledger.{is_marked, is_under_marked, group_under}
-use Rattle.ring_core.specs.Refusal.{refused_if}
-use Rattle.ring_core.specs.Request.{named, plain_request, held_of}
-use Rattle.ring_core.proofs.Numbers.{and-left, and-right}
-use Rattle.ring_core.proofs.Requests.{named-mapped}
-use Rattle.ring_core.proofs.Where.{where-kept, where-left, where-joined}
+use Rattle.machine.specs.declared.ledger.TheConstants.{MOST_LIVE}
+use Rattle.machine.specs.declared.ledger.Event.TheVariants.{Submit, Drop, Cancel}
+use Rattle.machine.specs.declared.ledger.Refusal.{Refusal}
+use Rattle.machine.specs.declared.ledger.Refusal.TheVariants.{NoOp, NoCanceller, NoHandle, Full}
+use Rattle.machine.specs.declared.ledger.Reply.TheVariants.{Submitted as Given, CanceledAtOnce, Asked, Dropped}
+use Rattle.machine.specs.declared.request.Request.{Request}
+use Rattle.machine.specs.Lists.{passes}
+use Rattle.machine.specs.Ledger.{is_marked, is_under_marked, group_under}
+use Rattle.machine.specs.Refusal.{refused_if}
+use Rattle.machine.specs.Request.{named, plain_request, held_of}
+use Rattle.machine.proofs.Numbers.{and-left, and-right}
+use Rattle.machine.proofs.Requests.{named-mapped}
+use Rattle.machine.proofs.Where.{where-kept, where-left, where-joined}
 use Rattle.driver_core.specs.declared.slot.Slot.{Slot}
 use Rattle.driver_core.specs.Answers.{IsUnder}
 use Rattle.driver_core.specs.Groups.{is_under_canceled, joins_if}

@@ -8,20 +8,20 @@ use Rattle.rent_buf.specs.Buffer.{Buffer}
 use Rattle.rent_buf.specs.Parts.{Parts}
 use Rattle.rent_buf.specs.declared.fault.OutOfMemory.{OutOfMemory}
 use Rattle.handle_core.specs.Table.{Table}
-use Rattle.ring_core.specs.declared.request.Call.{Call}
-use Rattle.ring_core.specs.declared.request.Request.{Request}
-use Rattle.ring_core.specs.declared.request.Told.{Told}
-use Rattle.ring_core.specs.declared.request.Request.TheVariants.{Recv, ReadVec, Send, WriteVec, RecvMsg, SendMsg, Read, Write}
-use Rattle.ring_core.specs.declared.request.Request.TheVariants.{SpliceTo, SpliceFrom, Accept, Open, Connect, Fsync, PollAdd, MkDir, Rename}
-use Rattle.ring_core.specs.declared.request.Request.TheVariants.{Unlink}
-use Rattle.ring_core.specs.declared.world.HandleState.{HandleState}
-use Rattle.ring_core.specs.declared.ledger.Reply.TheVariants.{Pending as Waits}
-use Rattle.ring_core.specs.Attempt.{awaited, is_file_at, is_readable_at, is_readable, reads_at_once, is_early, attempt, answer_if}
-use Rattle.ring_core.specs.Lists.{has_number, passes}
-use Rattle.ring_core.specs.Request.{named, both, call_of, plain_request}
-use Rattle.ring_core.specs.World.{is_file}
-use Rattle.ring_core.proofs.Leaving.{has-first, has-later}
-use Rattle.ring_core.proofs.Requests.{named-mapped}
+use Rattle.machine.specs.declared.request.Call.{Call}
+use Rattle.machine.specs.declared.request.Request.{Request}
+use Rattle.machine.specs.declared.request.Told.{Told}
+use Rattle.machine.specs.declared.request.Request.TheVariants.{Recv, ReadVec, Send, WriteVec, RecvMsg, SendMsg, Read, Write}
+use Rattle.machine.specs.declared.request.Request.TheVariants.{SpliceTo, SpliceFrom, Accept, Open, Connect, Fsync, PollAdd, MkDir, Rename}
+use Rattle.machine.specs.declared.request.Request.TheVariants.{Unlink}
+use Rattle.machine.specs.declared.world.HandleState.{HandleState}
+use Rattle.machine.specs.declared.ledger.Reply.TheVariants.{Pending as Waits}
+use Rattle.machine.specs.Attempt.{awaited, is_file_at, is_readable_at, is_readable, reads_at_once, is_early, attempt, answer_if}
+use Rattle.machine.specs.Lists.{has_number, passes}
+use Rattle.machine.specs.Request.{named, both, call_of, plain_request}
+use Rattle.machine.specs.World.{is_file}
+use Rattle.machine.proofs.Leaving.{has-first, has-later}
+use Rattle.machine.proofs.Requests.{named-mapped}
 use Rattle.driver_core.specs.declared.op.Op.{Op}
 use Rattle.driver_core.specs.declared.op.PollOp.{PollOp}
 use Rattle.driver_core.specs.declared.op.PollOp.TheVariants.{Pending, Ready}

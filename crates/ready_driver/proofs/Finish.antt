@@ -6,26 +6,26 @@ use Rattle.std.specs.Prelude.{is_some}
 use Rattle.std.proofs.lemmas.Bool.{lt-leb}
 use Rattle.std.proofs.lemmas.Bool.Decides.{eqb_tells}
 use Rattle.std.proofs.lemmas.Option.{slice_get_within}
-use Rattle.ring_core.specs.declared.request.Told.{Told}
-use Rattle.ring_core.specs.declared.world.HandleState.{HandleState}
-use Rattle.ring_core.specs.declared.ledger.Event.TheVariants.{Poll, Turn, Exec}
-use Rattle.ring_core.specs.declared.ledger.Refusal.TheVariants.{NoOp, NotFlying, Waiting, BadOutcome}
-use Rattle.ring_core.specs.declared.ledger.Reply.TheVariants.{Handed}
-use Rattle.ring_core.specs.Lists.{amended, passes}
-use Rattle.ring_core.specs.Request.{call_of, held}
-use Rattle.ring_core.specs.Outcome.{is_allowed}
-use Rattle.ring_core.specs.Effect.{Effect, made_by}
-use Rattle.ring_core.specs.Ledger.{Ledger, Operation, Owner, Gone, Item, Op, is_kept}
-use Rattle.ring_core.specs.Queue.{leave}
-use Rattle.ring_core.specs.Refusal.{cause, refused_if, waits, allowed}
-use Rattle.ring_core.specs.Turn.{with_reap, reap_if, reap_op, reap_each, reap_all, effect_of, with_result, made_owners, with_effect}
-use Rattle.ring_core.specs.Turn.{exec_op, complete_at, released, exec_step}
-use Rattle.ring_core.specs.Step.{step, as_user, handed_over, poll_at, poll_step}
-use Rattle.ring_core.specs.Run.{after}
-use Rattle.ring_core.proofs.Amended.{get-amended, get-amended-other}
-use Rattle.ring_core.proofs.Occurring.{same-cases, queued, listed, listed-remove}
-use Rattle.ring_core.proofs.Taking.{in_queue, in_flight, in_done, queue_mark, flight_mark, done_mark, Listed}
-use Rattle.ring_core.proofs.Stepping.{step-row}
+use Rattle.machine.specs.declared.request.Told.{Told}
+use Rattle.machine.specs.declared.world.HandleState.{HandleState}
+use Rattle.machine.specs.declared.ledger.Event.TheVariants.{Poll, Turn, Exec}
+use Rattle.machine.specs.declared.ledger.Refusal.TheVariants.{NoOp, NotFlying, Waiting, BadOutcome}
+use Rattle.machine.specs.declared.ledger.Reply.TheVariants.{Handed}
+use Rattle.machine.specs.Lists.{amended, passes}
+use Rattle.machine.specs.Request.{call_of, held}
+use Rattle.machine.specs.Outcome.{is_allowed}
+use Rattle.machine.specs.Effect.{Effect, made_by}
+use Rattle.machine.specs.Ledger.{Ledger, Operation, Owner, Gone, Item, Op, is_kept}
+use Rattle.machine.specs.Queue.{leave}
+use Rattle.machine.specs.Refusal.{cause, refused_if, waits, allowed}
+use Rattle.machine.specs.Turn.{with_reap, reap_if, reap_op, reap_each, reap_all, effect_of, with_result, made_owners, with_effect}
+use Rattle.machine.specs.Turn.{exec_op, complete_at, released, exec_step}
+use Rattle.machine.specs.Step.{step, as_user, handed_over, poll_at, poll_step}
+use Rattle.machine.specs.Run.{after}
+use Rattle.machine.proofs.Amended.{get-amended, get-amended-other}
+use Rattle.machine.proofs.Occurring.{same-cases, queued, listed, listed-remove}
+use Rattle.machine.proofs.Taking.{in_queue, in_flight, in_done, queue_mark, flight_mark, done_mark, Listed}
+use Rattle.machine.proofs.Stepping.{step-row}
 use Rattle.driver_core.proofs.Lists.{amended-twice}
 use Rattle.ready_driver.specs.Spelled.{place_of}
 use Rattle.ready_driver.proofs.Free.{Free, AllFree, free-changed, releases-none}

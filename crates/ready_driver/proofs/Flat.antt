@@ -1,15 +1,15 @@
 -- A ledger with its queue taken: what each push, each new operation and each change makes of it.
 use Rattle.std.proofs.Common.{◌≡◌, ℕ, Bool, true, false, List, [], ◌∷◌, ◌++◌, length, Option, None, refl, sym, ◌∙◌, ap, if◌then◌else◌}
 use Rattle.std.proofs.Common.{◌==◌}
-use Rattle.ring_core.specs.declared.world.HandleState.{HandleState}
-use Rattle.ring_core.specs.Lists.{amended}
-use Rattle.ring_core.specs.Ledger.{Ledger, Operation, Owner, Queued, Req, Cancel}
-use Rattle.ring_core.specs.Queue.{with_op, with_take, with_cancel, take_one, leader_behind, take_behind, take_each, take_all, make_room}
-use Rattle.ring_core.specs.Queue.{append, push}
-use Rattle.ring_core.specs.Step.{with_new_op}
-use Rattle.ring_core.proofs.Taken.{queue-take_each, length-take_each}
-use Rattle.ring_core.proofs.Taking.{Listed}
-use Rattle.ring_core.proofs.Listed.{take-new_op, joined}
+use Rattle.machine.specs.declared.world.HandleState.{HandleState}
+use Rattle.machine.specs.Lists.{amended}
+use Rattle.machine.specs.Ledger.{Ledger, Operation, Owner, Queued, Req, Cancel}
+use Rattle.machine.specs.Queue.{with_op, with_take, with_cancel, take_one, leader_behind, take_behind, take_each, take_all, make_room}
+use Rattle.machine.specs.Queue.{append, push}
+use Rattle.machine.specs.Step.{with_new_op}
+use Rattle.machine.proofs.Taken.{queue-take_each, length-take_each}
+use Rattle.machine.proofs.Taking.{Listed}
+use Rattle.machine.proofs.Listed.{take-new_op, joined}
 use Rattle.ready_driver.proofs.Lists.{amended-swap, amended-end}
 use Rattle.ready_driver.proofs.Free.{Free, AllFree, free-changed, free-joined, take-first, free-one, free-room}
 

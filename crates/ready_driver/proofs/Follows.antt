@@ -2,24 +2,24 @@
 use Rattle.std.proofs.Common.{◌≡◌, ℕ, ◌+◌, Bool, true, false, List, [], ◌∷◌, ◌++◌, length, Option, Some, None, option_map}
 use Rattle.std.proofs.Common.{refl, sym, ◌∙◌, ap, subst}
 use Rattle.std.proofs.lemmas.List.{map-append, length-append}
-use Rattle.ring_core.specs.declared.world.HandleKind.{HandleKind}
-use Rattle.ring_core.specs.declared.world.HandleState.{HandleState}
-use Rattle.ring_core.specs.declared.ledger.Event.{Event}
-use Rattle.ring_core.specs.declared.ledger.Event.TheVariants.{Give, Feed, FeedMessage, End, Look, Close, Submit, Poll, Drop, Cancel}
-use Rattle.ring_core.specs.declared.ledger.Event.TheVariants.{NewCanceller, NewHandle, CancelAll, Turn, Exec}
-use Rattle.ring_core.specs.declared.ledger.Refusal.{Refusal}
-use Rattle.ring_core.specs.declared.ledger.Reply.{Reply}
-use Rattle.ring_core.specs.declared.ledger.Reply.TheVariants.{Handle, Fed, Ended, Released, Asked, Canceller, CancelHandle, Cancels}
-use Rattle.ring_core.specs.declared.ledger.Reply.TheVariants.{Refused}
-use Rattle.ring_core.specs.Lists.{amended}
-use Rattle.ring_core.specs.World.{fresh, with_input, with_message, with_end, look_at}
-use Rattle.ring_core.specs.Ledger.{Ledger, Owner, Queued, is_under_marked, group_under, members}
-use Rattle.ring_core.specs.Queue.{push, is_unheld}
-use Rattle.ring_core.specs.Refusal.{cause}
-use Rattle.ring_core.specs.Step.{step, new_owner, as_user, close_unheld, with_handle, submit_if, group_of, cancel_all_step, look_reply}
-use Rattle.ring_core.specs.Run.{after}
-use Rattle.ring_core.proofs.Amended.{length-amended}
-use Rattle.ring_core.proofs.Stepping.{step-row, step-refused, OwnedAt, found}
+use Rattle.machine.specs.declared.world.HandleKind.{HandleKind}
+use Rattle.machine.specs.declared.world.HandleState.{HandleState}
+use Rattle.machine.specs.declared.ledger.Event.{Event}
+use Rattle.machine.specs.declared.ledger.Event.TheVariants.{Give, Feed, FeedMessage, End, Look, Close, Submit, Poll, Drop, Cancel}
+use Rattle.machine.specs.declared.ledger.Event.TheVariants.{NewCanceller, NewHandle, CancelAll, Turn, Exec}
+use Rattle.machine.specs.declared.ledger.Refusal.{Refusal}
+use Rattle.machine.specs.declared.ledger.Reply.{Reply}
+use Rattle.machine.specs.declared.ledger.Reply.TheVariants.{Handle, Fed, Ended, Released, Asked, Canceller, CancelHandle, Cancels}
+use Rattle.machine.specs.declared.ledger.Reply.TheVariants.{Refused}
+use Rattle.machine.specs.Lists.{amended}
+use Rattle.machine.specs.World.{fresh, with_input, with_message, with_end, look_at}
+use Rattle.machine.specs.Ledger.{Ledger, Owner, Queued, is_under_marked, group_under, members}
+use Rattle.machine.specs.Queue.{push, is_unheld}
+use Rattle.machine.specs.Refusal.{cause}
+use Rattle.machine.specs.Step.{step, new_owner, as_user, close_unheld, with_handle, submit_if, group_of, cancel_all_step, look_reply}
+use Rattle.machine.specs.Run.{after}
+use Rattle.machine.proofs.Amended.{length-amended}
+use Rattle.machine.proofs.Stepping.{step-row, step-refused, OwnedAt, found}
 use Rattle.ready_driver.specs.Spelled.{Spelling, spelled_out, open_spelling, row_spelling, closes_behind, spelled, spelled_reply}
 use Rattle.ready_driver.specs.Spelled.{ledger_behind}
 use Rattle.ready_driver.specs.Legacy.{Legacy, seen, members_at}

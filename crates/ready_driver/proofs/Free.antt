@@ -1,13 +1,13 @@
 -- Operations of which none is linked, and none waits for another: what taking makes of them, and that none is released.
 use Rattle.std.proofs.Common.{◌≡◌, inl, inr, ℕ, suc, Bool, true, false, List, [], ◌∷◌, ◌++◌, length, map, Option, Some, None, slice_get}
 use Rattle.std.proofs.Common.{refl, sym, ◌∙◌, ap, subst, if◌then◌else◌, ◌==◌}
-use Rattle.ring_core.specs.declared.request.Told.{Told}
-use Rattle.ring_core.specs.declared.request.Told.TheVariants.{Count, Fail}
-use Rattle.ring_core.specs.Lists.{amended, passes}
-use Rattle.ring_core.specs.Ledger.{Ledger, Operation, Place, InQueue, InFlight, InDone, Reaped, Gone, Queued, Req, Cancel, Item, Op}
-use Rattle.ring_core.specs.Queue.{canceled_at, with_take, with_cancel, take_one, leader_behind, take_behind, take_each, take_all, make_room}
-use Rattle.ring_core.specs.Turn.{waits_on, waiting_on, without_wait, unless_waits, break_each, released}
-use Rattle.ring_core.proofs.Amended.{changed-cases, joined-cases, there-before}
+use Rattle.machine.specs.declared.request.Told.{Told}
+use Rattle.machine.specs.declared.request.Told.TheVariants.{Count, Fail}
+use Rattle.machine.specs.Lists.{amended, passes}
+use Rattle.machine.specs.Ledger.{Ledger, Operation, Place, InQueue, InFlight, InDone, Reaped, Gone, Queued, Req, Cancel, Item, Op}
+use Rattle.machine.specs.Queue.{canceled_at, with_take, with_cancel, take_one, leader_behind, take_behind, take_each, take_all, make_room}
+use Rattle.machine.specs.Turn.{waits_on, waiting_on, without_wait, unless_waits, break_each, released}
+use Rattle.machine.proofs.Amended.{changed-cases, joined-cases, there-before}
 
 -- An operation isn't linked, and waits for none.
 abbrev pub Free : Operation → Type 0

@@ -7,14 +7,14 @@ use Rattle.std.proofs.lemmas.Option.{slice_get_within}
 use Rattle.std.proofs.lemmas.Bool.{false_from_ne_true}
 use Rattle.rent_buf.specs.Buffer.{Buffer}
 use Rattle.rent_buf.specs.Parts.{Parts}
-use Rattle.ring_core.specs.declared.request.Request.{Request}
-use Rattle.ring_core.specs.Ledger.{is_marked}
-use Rattle.ring_core.specs.Lists.{amended, has_number, numbers_where, passes}
-use Rattle.ring_core.proofs.Amended.{get-amended-other}
-use Rattle.ring_core.proofs.Members.{has-where}
-use Rattle.ring_core.proofs.Numbers.{same-or-not, equal-other}
-use Rattle.ring_core.proofs.Owning.{marks-more}
-use Rattle.ring_core.proofs.Where.{where-kept, where-joined}
+use Rattle.machine.specs.declared.request.Request.{Request}
+use Rattle.machine.specs.Ledger.{is_marked}
+use Rattle.machine.specs.Lists.{amended, has_number, numbers_where, passes}
+use Rattle.machine.proofs.Amended.{get-amended-other}
+use Rattle.machine.proofs.Members.{has-where}
+use Rattle.machine.proofs.Numbers.{same-or-not, equal-other}
+use Rattle.machine.proofs.Owning.{marks-more}
+use Rattle.machine.proofs.Where.{where-kept, where-joined}
 use Rattle.cancel_core.specs.Group.{group_at, without}
 use Rattle.driver_core.specs.Groups.{is_under_canceled, joins_if}
 use Rattle.driver_core.specs.Members.{Membership, ArePlaced, none, with_fresh, leaves, cancels, joins}

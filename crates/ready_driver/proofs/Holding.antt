@@ -9,17 +9,17 @@ use Rattle.std.proofs.lemmas.List.{length-append}
 use Rattle.rent_buf.specs.Buffer.{Buffer}
 use Rattle.rent_buf.specs.Parts.{Parts}
 use Rattle.handle_core.specs.Table.{Table, holders_at, without_user, by_user}
-use Rattle.ring_core.specs.declared.entry.TheConstants.{MOST_HANDLES}
-use Rattle.ring_core.specs.declared.ledger.Event.TheVariants.{Close, Give}
-use Rattle.ring_core.specs.declared.ledger.Refusal.TheVariants.{NoHandle}
-use Rattle.ring_core.specs.declared.ledger.Reply.TheVariants.{Released, Handle}
-use Rattle.ring_core.specs.declared.world.HandleKind.{HandleKind}
-use Rattle.ring_core.specs.Lists.{amended, has_number}
-use Rattle.ring_core.specs.Refusal.{refused_if}
-use Rattle.ring_core.specs.Request.{named, plain_request}
-use Rattle.ring_core.specs.World.{fresh}
-use Rattle.ring_core.specs.declared.request.Request.{Request}
-use Rattle.ring_core.proofs.Requests.{named-mapped}
+use Rattle.machine.specs.declared.world.TheConstants.{MOST_HANDLES}
+use Rattle.machine.specs.declared.ledger.Event.TheVariants.{Close, Give}
+use Rattle.machine.specs.declared.ledger.Refusal.TheVariants.{NoHandle}
+use Rattle.machine.specs.declared.ledger.Reply.TheVariants.{Released, Handle}
+use Rattle.machine.specs.declared.world.HandleKind.{HandleKind}
+use Rattle.machine.specs.Lists.{amended, has_number}
+use Rattle.machine.specs.Refusal.{refused_if}
+use Rattle.machine.specs.Request.{named, plain_request}
+use Rattle.machine.specs.World.{fresh}
+use Rattle.machine.specs.declared.request.Request.{Request}
+use Rattle.machine.proofs.Requests.{named-mapped}
 use Rattle.driver_core.specs.declared.slot.Slot.{Slot}
 use Rattle.driver_core.specs.Holds.{is_nobody, settled, with_ops, CanJoin}
 use Rattle.ready_driver.specs.HandlesStand.{HandlesStand}

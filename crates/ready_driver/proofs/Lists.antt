@@ -1,7 +1,7 @@
 -- Lists by number: two changes, a change of what joined the end, and what is read of changed lists.
 use Rattle.std.proofs.Common.{◌≡◌, ℕ, zero, suc, Bool, List, [], ◌∷◌, ◌++◌, length, map, Option, Some, None, option_map, slice_get}
 use Rattle.std.proofs.Common.{refl, sym, ◌∙◌, ap, if◌then◌else◌}
-use Rattle.ring_core.specs.Lists.{amended, numbers_where}
+use Rattle.machine.specs.Lists.{amended, numbers_where}
 
 -- Two changes are made in either order, where they commute.
 pub amended-swap : {A : Type 0} (xs : List A) (n m : ℕ) (f g : A → A) → ((x : A) → g (f x) ≡ f (g x)) →

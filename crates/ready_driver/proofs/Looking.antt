@@ -2,7 +2,7 @@
 use Rattle.std.proofs.Common.{◌≡◌, ℕ, Bool, Option, Some, inl, inr}
 use Rattle.std.specs.Prelude.{IfNone}
 use Rattle.rent_buf.specs.Buffer.{Buffer}
-use Rattle.ring_core.specs.Ledger.{Ledger}
+use Rattle.machine.specs.Ledger.{Ledger}
 use Rattle.wake_core.specs.declared.park.Woken.{Woken}
 use Rattle.wake_core.specs.Sleeping.{Sleeping, LooksOut, is_still, limit_of}
 use Rattle.driver_core.specs.declared.op.Turned.{Turned}

@@ -4,8 +4,8 @@ use Rattle.std.proofs.Common.{◌+◌, length, get_or, set, refl, sym, ap, arith
 use Rattle.std.proofs.Math.Bool.{or-true, or-false}
 use Rattle.driver_core.proofs.Distinct.{has-one_more, equal-is}
 use Rattle.std.proofs.lemmas.List.{get_or-set_same, get_or-set_other, length-append, length-set}
-use Rattle.ring_core.proofs.Numbers.{same-or-not, equal-other}
-use Rattle.ring_core.specs.Lists.{has_number}
+use Rattle.machine.proofs.Numbers.{same-or-not, equal-other}
+use Rattle.machine.specs.Lists.{has_number}
 use Rattle.ready_driver.specs.Due.{trues, IsMarked}
 
 -- No more are marked than there are marks.

@@ -4,26 +4,26 @@ use Rattle.std.proofs.Common.{slice_get, refl, sym, ◌∙◌, ap, subst, if◌t
 use Rattle.std.proofs.lemmas.List.{map-append, length-map}
 use Rattle.rent_buf.specs.Buffer.{Buffer}
 use Rattle.rent_buf.specs.Parts.{Parts}
-use Rattle.ring_core.specs.declared.request.Request.{Request}
-use Rattle.ring_core.specs.declared.world.HandleState.{HandleState}
-use Rattle.ring_core.specs.declared.ledger.Event.{Event}
-use Rattle.ring_core.specs.declared.ledger.Reply.{Reply}
-use Rattle.ring_core.specs.declared.ledger.Reply.TheVariants.{Released, Submitted, CanceledAtOnce, Cancels}
-use Rattle.ring_core.specs.Lists.{amended, has_number, numbers_where}
-use Rattle.ring_core.specs.Request.{held_of}
-use Rattle.ring_core.specs.Ledger.{Ledger, Operation, Owner, Place, InQueue, InFlight, InDone, Reaped, Gone, Queued, Req, new_operation}
-use Rattle.ring_core.specs.Ledger.{is_kept}
-use Rattle.ring_core.specs.Ledger.{is_marked, is_member, members}
-use Rattle.ring_core.specs.Queue.{with_op, canceled_at, with_take, with_cancel, take_one, take_all, make_room, push, push_each}
-use Rattle.ring_core.specs.Step.{step, with_new_op, submit_step, submit_if, close_if, with_mark, renew_group, cancel_all_step}
-use Rattle.ring_core.specs.Run.{after}
-use Rattle.ring_core.proofs.Amended.{changed-cases, length-amended}
-use Rattle.ring_core.proofs.Taken.{length-take_each}
-use Rattle.ring_core.proofs.Taking.{Took, take_all-ops, taken_place, with_taking}
-use Rattle.ring_core.proofs.Listed.{joined, submit-joined}
-use Rattle.ring_core.proofs.Staying.{stays-make_room, stays-push, stays-push_each}
-use Rattle.ring_core.proofs.Members.{members-are}
-use Rattle.ring_core.proofs.Leaving.{has-first, has-later}
+use Rattle.machine.specs.declared.request.Request.{Request}
+use Rattle.machine.specs.declared.world.HandleState.{HandleState}
+use Rattle.machine.specs.declared.ledger.Event.{Event}
+use Rattle.machine.specs.declared.ledger.Reply.{Reply}
+use Rattle.machine.specs.declared.ledger.Reply.TheVariants.{Released, Submitted, CanceledAtOnce, Cancels}
+use Rattle.machine.specs.Lists.{amended, has_number, numbers_where}
+use Rattle.machine.specs.Request.{held_of}
+use Rattle.machine.specs.Ledger.{Ledger, Operation, Owner, Place, InQueue, InFlight, InDone, Reaped, Gone, Queued, Req, new_operation}
+use Rattle.machine.specs.Ledger.{is_kept}
+use Rattle.machine.specs.Ledger.{is_marked, is_member, members}
+use Rattle.machine.specs.Queue.{with_op, canceled_at, with_take, with_cancel, take_one, take_all, make_room, push, push_each}
+use Rattle.machine.specs.Step.{step, with_new_op, submit_step, submit_if, close_if, with_mark, renew_group, cancel_all_step}
+use Rattle.machine.specs.Run.{after}
+use Rattle.machine.proofs.Amended.{changed-cases, length-amended}
+use Rattle.machine.proofs.Taken.{length-take_each}
+use Rattle.machine.proofs.Taking.{Took, take_all-ops, taken_place, with_taking}
+use Rattle.machine.proofs.Listed.{joined, submit-joined}
+use Rattle.machine.proofs.Staying.{stays-make_room, stays-push, stays-push_each}
+use Rattle.machine.proofs.Members.{members-are}
+use Rattle.machine.proofs.Leaving.{has-first, has-later}
 use Rattle.ready_driver.specs.Spelled.{asked, Spelling, spelled_out, itself, spelled_reply}
 use Rattle.ready_driver.specs.Legacy.{LegacyOp, Legacy, members_at}
 use Rattle.ready_driver.specs.LegacyStep.{with_ask, ask_each, new_op, submit_at, cancel_group}

@@ -7,15 +7,15 @@ use Rattle.rent_buf.specs.Parts.{Parts}
 use Rattle.op_slots.specs.Lifecycle.{polled}
 use Rattle.op_slots.specs.declared.lifecycle.Lifecycle.{Lifecycle}
 use Rattle.op_slots.specs.declared.lifecycle.Lifecycle.TheVariants.{Completed}
-use Rattle.ring_core.specs.declared.request.TheConstants.{CANCELED}
-use Rattle.ring_core.specs.declared.request.Outcome.{Outcome}
-use Rattle.ring_core.specs.declared.request.Outcome.TheVariants.{Count, From, Made, Fail}
-use Rattle.ring_core.specs.declared.request.Request.{Request}
-use Rattle.ring_core.specs.declared.request.Way.{Way}
-use Rattle.ring_core.specs.declared.request.Way.TheVariants.{Reads, Sends, Neither}
-use Rattle.ring_core.specs.Effect.{made_by}
-use Rattle.ring_core.specs.Request.{plain_request, way_of, held_after, named, makes}
-use Rattle.ring_core.proofs.Requests.{named-mapped, named-holding, makes-mapped}
+use Rattle.machine.specs.declared.request.TheConstants.{CANCELED}
+use Rattle.machine.specs.declared.request.Outcome.{Outcome}
+use Rattle.machine.specs.declared.request.Outcome.TheVariants.{Count, From, Made, Fail}
+use Rattle.machine.specs.declared.request.Request.{Request}
+use Rattle.machine.specs.declared.request.Way.{Way}
+use Rattle.machine.specs.declared.request.Way.TheVariants.{Reads, Sends, Neither}
+use Rattle.machine.specs.Effect.{made_by}
+use Rattle.machine.specs.Request.{plain_request, way_of, held_after, named, makes}
+use Rattle.machine.proofs.Requests.{named-mapped, named-holding, makes-mapped}
 use Rattle.driver_core.specs.declared.op.Done.{Done}
 use Rattle.driver_core.specs.declared.operations.calls.CallAnswer.{CallAnswer}
 use Rattle.driver_core.specs.declared.slot.Slot.{Slot}

@@ -11,7 +11,7 @@ use Rattle.std.proofs.lemmas.List.Sorted.{IsNonDecreasingBy-from_default}
 use Rattle.ready_driver.specs.declared.scheduled_io.Waiter.{Waiter}
 use Rattle.ready_driver.specs.declared.scheduled_io.wait_list.Entry.{Entry}
 use Rattle.ready_driver.specs.declared.scheduled_io.wait_list.Entry.TheVariants.{Waits, Gap}
-use Rattle.ring_core.proofs.Numbers.{same-or-not}
+use Rattle.machine.proofs.Numbers.{same-or-not}
 use Rattle.ready_driver.specs.WaitList.{number_of, is_of, IsAscendingFrom, IsInOrder, IsBehind, IsPlace, IsAway, IsSpot}
 use Rattle.ready_driver.proofs.Places.{place-first, place-later, away-empty, away-later, not-of}
 

@@ -6,10 +6,10 @@ use Rattle.std.specs.Prelude.{is_some, Result, Ok, Err}
 use Rattle.rent_buf.specs.Buffer.{Buffer}
 use Rattle.rent_buf.specs.Parts.{Parts}
 use Rattle.rent_buf.specs.declared.fault.OutOfMemory.{OutOfMemory}
-use Rattle.ring_core.proofs.Numbers.{same-or-not}
-use Rattle.ring_core.specs.Effect.{made_by}
-use Rattle.ring_core.specs.Request.{named}
-use Rattle.ring_core.specs.declared.request.Request.{Request}
+use Rattle.machine.proofs.Numbers.{same-or-not}
+use Rattle.machine.specs.Effect.{made_by}
+use Rattle.machine.specs.Request.{named}
+use Rattle.machine.specs.declared.request.Request.{Request}
 use Rattle.driver_core.specs.declared.op.Op.{Op}
 use Rattle.driver_core.specs.declared.op.PollOp.{PollOp}
 use Rattle.driver_core.specs.declared.op.PollOp.TheVariants.{Pending, Ready}

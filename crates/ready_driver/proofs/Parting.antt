@@ -6,13 +6,13 @@ use Rattle.std.proofs.lemmas.Bool.{ltb-true}
 use Rattle.std.proofs.lemmas.Bool.Decides.{nat_tests}
 use Rattle.handle_core.specs.declared.table.Holders.{Holders}
 use Rattle.handle_core.specs.Table.{Table, holders_at, without_user}
-use Rattle.ring_core.specs.Lists.{amended, numbers_where, has_number, passes}
-use Rattle.ring_core.specs.Ranks.{one_if}
-use Rattle.ring_core.specs.Request.{named}
-use Rattle.ring_core.proofs.Numbers.{same-or-not}
-use Rattle.ring_core.proofs.Amended.{get-amended, get-amended-other, length-amended}
-use Rattle.ring_core.proofs.Leaving.{named-ascends}
-use Rattle.ring_core.proofs.Where.{where-kept, where-left}
+use Rattle.machine.specs.Lists.{amended, numbers_where, has_number, passes}
+use Rattle.machine.specs.Lists.{one_if}
+use Rattle.machine.specs.Request.{named}
+use Rattle.machine.proofs.Numbers.{same-or-not}
+use Rattle.machine.proofs.Amended.{get-amended, get-amended-other, length-amended}
+use Rattle.machine.proofs.Leaving.{named-ascends}
+use Rattle.machine.proofs.Where.{where-kept, where-left}
 use Rattle.driver_core.specs.Holds.{is_nobody, settle_if, settled, left_holders, without_ops, front_if, unheld_by, CanLeave}
 use Rattle.driver_core.proofs.Distinct.{ascends-distinct}
 use Rattle.driver_core.proofs.Holds.{settled-same, settled-other, user-left, ops-left, can-leave, held-op, held-user}

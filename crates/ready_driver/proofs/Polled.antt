@@ -10,20 +10,20 @@ use Rattle.std.proofs.lemmas.Bool.Decides.{nat_tests}
 use Rattle.rent_buf.specs.Buffer.{Buffer}
 use Rattle.rent_buf.specs.Held.{HeldBuf}
 use Rattle.handle_core.specs.Table.{Table, by_user}
-use Rattle.ring_core.specs.declared.entry.TheConstants.{MOST_HANDLES}
-use Rattle.ring_core.specs.declared.ledger.Event.TheVariants.{Poll}
-use Rattle.ring_core.specs.declared.ledger.Refusal.TheVariants.{NoOp}
-use Rattle.ring_core.specs.declared.ledger.Reply.TheVariants.{Pending as Waits, Handed}
-use Rattle.ring_core.specs.declared.request.TheConstants.{CANCELED}
-use Rattle.ring_core.specs.declared.request.Outcome.{Outcome}
-use Rattle.ring_core.specs.declared.request.Told.{Told}
-use Rattle.ring_core.specs.declared.request.Told.TheVariants.{Fail}
-use Rattle.ring_core.specs.declared.world.HandleState.{HandleState}
-use Rattle.ring_core.specs.Effect.{made_by}
-use Rattle.ring_core.specs.Refusal.{refused_if}
-use Rattle.ring_core.specs.Request.{named, call_of, sent_of, held_of, plain_request}
-use Rattle.ring_core.proofs.Numbers.{same-or-not}
-use Rattle.ring_core.proofs.Turning.{Grows, grows-effect}
+use Rattle.machine.specs.declared.world.TheConstants.{MOST_HANDLES}
+use Rattle.machine.specs.declared.ledger.Event.TheVariants.{Poll}
+use Rattle.machine.specs.declared.ledger.Refusal.TheVariants.{NoOp}
+use Rattle.machine.specs.declared.ledger.Reply.TheVariants.{Pending as Waits, Handed}
+use Rattle.machine.specs.declared.request.TheConstants.{CANCELED}
+use Rattle.machine.specs.declared.request.Outcome.{Outcome}
+use Rattle.machine.specs.declared.request.Told.{Told}
+use Rattle.machine.specs.declared.request.Told.TheVariants.{Fail}
+use Rattle.machine.specs.declared.world.HandleState.{HandleState}
+use Rattle.machine.specs.Effect.{made_by}
+use Rattle.machine.specs.Refusal.{refused_if}
+use Rattle.machine.specs.Request.{named, call_of, sent_of, held_of, plain_request}
+use Rattle.machine.proofs.Numbers.{same-or-not}
+use Rattle.machine.proofs.Turning.{Grows, grows-effect}
 use Rattle.driver_core.specs.declared.op.Done.{Done}
 use Rattle.driver_core.specs.declared.slot.Slot.{Slot}
 use Rattle.driver_core.specs.Holds.{named_in, without_ops, unheld_by}
@@ -48,7 +48,7 @@ use Rattle.ready_driver.specs.Records.{Kept, io_at}
 use Rattle.ready_driver.specs.Registry.{Handling, is_known, is_old, IsSameButRoom, LetsGo}
 use Rattle.ready_driver.specs.Reports.{with_key, with_made_key, ShowsBits}
 use Rattle.ready_driver.specs.Turns.{AreReported}
-use Rattle.ring_core.specs.Attempt.{is_readable_at}
+use Rattle.machine.specs.Attempt.{is_readable_at}
 use Rattle.ready_driver.proofs.Events.{fits, driven, names-are, live-freed, left-handles}
 use Rattle.ready_driver.proofs.Grouped.{groups-freed}
 use Rattle.ready_driver.proofs.Holding.{tries-memory, standing-room}

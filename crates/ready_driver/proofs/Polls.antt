@@ -6,30 +6,30 @@ use Rattle.std.specs.Prelude.{is_none, unwrap_or, option_to_list}
 use Rattle.std.proofs.lemmas.List.{map-append, length-append, append-nil}
 use Rattle.rent_buf.specs.Buffer.{Buffer}
 use Rattle.rent_buf.specs.Parts.{Parts}
-use Rattle.ring_core.specs.declared.request.TheConstants.{CANCELED}
-use Rattle.ring_core.specs.declared.request.Request.{Request}
-use Rattle.ring_core.specs.declared.request.Told.{Told}
-use Rattle.ring_core.specs.declared.request.Told.TheVariants.{Fail}
-use Rattle.ring_core.specs.declared.world.HandleState.{HandleState}
-use Rattle.ring_core.specs.declared.ledger.Event.TheVariants.{Poll, Turn, Exec}
-use Rattle.ring_core.specs.declared.ledger.Reply.{Reply}
-use Rattle.ring_core.specs.declared.ledger.Reply.TheVariants.{Pending, Handed}
-use Rattle.ring_core.specs.Lists.{amended}
-use Rattle.ring_core.specs.Request.{call_of, sent_of, held}
-use Rattle.ring_core.specs.Effect.{Effect, effect, made_by}
-use Rattle.ring_core.specs.Ledger.{Ledger, Operation, Owner, Place, InQueue, InFlight, InDone, Reaped, Gone, Queued, Op}
-use Rattle.ring_core.specs.Queue.{with_op, at_place, canceled_at, take_all, push_each, with_gone, became_unheld, leave}
-use Rattle.ring_core.specs.Turn.{made_owners, effect_of}
-use Rattle.ring_core.specs.Step.{step, as_user, with_task, with_drop, poll_at}
-use Rattle.ring_core.specs.Run.{after}
-use Rattle.ring_core.specs.Attempt.{attempt}
-use Rattle.ring_core.proofs.Amended.{map-amended}
-use Rattle.ring_core.proofs.Taking.{taken_place, with_taking}
-use Rattle.ring_core.proofs.Staying.{Stays, stays-take_all, stays-leave}
-use Rattle.ring_core.proofs.Stepping.{OwnedAt}
-use Rattle.ring_core.proofs.Turning.{Grows, grows-effect}
-use Rattle.ring_core.proofs.Reaping.{AreCloses, closed-leave, ops-take_closes}
-use Rattle.ring_core.proofs.Attempting.{attempt_allowed}
+use Rattle.machine.specs.declared.request.TheConstants.{CANCELED}
+use Rattle.machine.specs.declared.request.Request.{Request}
+use Rattle.machine.specs.declared.request.Told.{Told}
+use Rattle.machine.specs.declared.request.Told.TheVariants.{Fail}
+use Rattle.machine.specs.declared.world.HandleState.{HandleState}
+use Rattle.machine.specs.declared.ledger.Event.TheVariants.{Poll, Turn, Exec}
+use Rattle.machine.specs.declared.ledger.Reply.{Reply}
+use Rattle.machine.specs.declared.ledger.Reply.TheVariants.{Pending, Handed}
+use Rattle.machine.specs.Lists.{amended}
+use Rattle.machine.specs.Request.{call_of, sent_of, held}
+use Rattle.machine.specs.Effect.{Effect, effect, made_by}
+use Rattle.machine.specs.Ledger.{Ledger, Operation, Owner, Place, InQueue, InFlight, InDone, Reaped, Gone, Queued, Op}
+use Rattle.machine.specs.Queue.{with_op, at_place, canceled_at, take_all, push_each, with_gone, became_unheld, leave}
+use Rattle.machine.specs.Turn.{made_owners, effect_of}
+use Rattle.machine.specs.Step.{step, as_user, with_task, with_drop, poll_at}
+use Rattle.machine.specs.Run.{after}
+use Rattle.machine.specs.Attempt.{attempt}
+use Rattle.machine.proofs.Amended.{map-amended}
+use Rattle.machine.proofs.Taking.{taken_place, with_taking}
+use Rattle.machine.proofs.Staying.{Stays, stays-take_all, stays-leave}
+use Rattle.machine.proofs.Stepping.{OwnedAt}
+use Rattle.machine.proofs.Turning.{Grows, grows-effect}
+use Rattle.machine.proofs.Reaping.{AreCloses, closed-leave, ops-take_closes}
+use Rattle.machine.proofs.Attempting.{attempt_allowed}
 use Rattle.ready_driver.specs.Spelled.{attempted, blocked, greedy, place_of, spelled_out, finishing, poll_spelling}
 use Rattle.ready_driver.specs.Spelled.{row_spelling, spelled_reply}
 use Rattle.ready_driver.specs.Legacy.{LegacyOp, Legacy, slot_in, slot_at}

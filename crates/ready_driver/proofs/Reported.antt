@@ -7,11 +7,11 @@ use Rattle.std.proofs.lemmas.Bool.Decides.{nat_tests}
 use Rattle.std.proofs.lemmas.Nat.{le_or_l, le_or_r}
 use Rattle.std.proofs.lemmas.Nat.Bits.{bit_at_and, bit_at_or, same_from_bits}
 use Rattle.handle_core.specs.Table.{Table}
-use Rattle.ring_core.specs.declared.world.HandleState.{HandleState}
-use Rattle.ring_core.specs.Attempt.{is_readable_at}
-use Rattle.ring_core.specs.Lists.{has_number}
-use Rattle.ring_core.proofs.Leaving.{has-other}
-use Rattle.ring_core.proofs.Numbers.{equal-self, same-or-not}
+use Rattle.machine.specs.declared.world.HandleState.{HandleState}
+use Rattle.machine.specs.Attempt.{is_readable_at}
+use Rattle.machine.specs.Lists.{has_number}
+use Rattle.machine.proofs.Leaving.{has-other}
+use Rattle.machine.proofs.Numbers.{equal-self, same-or-not}
 use Rattle.ready_driver.specs.declared.non_block.Report.{Report}
 use Rattle.ready_driver.specs.declared.ready.Direction.TheVariants.{Read, Write}
 use Rattle.ready_driver.specs.Io.{IoView, IsShown, IsWaited}

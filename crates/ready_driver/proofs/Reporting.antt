@@ -4,8 +4,8 @@ use Rattle.std.proofs.Common.{ap, subst, arith, not, slice_get, option_map, unwr
 use Rattle.std.proofs.lemmas.List.{length-map}
 use Rattle.std.proofs.lemmas.List.Filters.{length-filter_both}
 use Rattle.handle_core.specs.Table.{Table}
-use Rattle.ring_core.proofs.Numbers.{same-or-not}
-use Rattle.ring_core.proofs.Keeping.{drop-suc}
+use Rattle.machine.proofs.Numbers.{same-or-not}
+use Rattle.machine.proofs.Appended.{drop-suc}
 use Rattle.ready_driver.specs.declared.non_block.Report.{Report}
 use Rattle.ready_driver.specs.declared.scheduled_io.Waiter.{Waiter}
 use Rattle.ready_driver.specs.ScheduledIo.{is_met, taken, left}

@@ -2,23 +2,23 @@
 use Rattle.std.proofs.Common.{◌≡◌, ◌≢◌, ℕ, Bool, true, false, not, ◌&&◌, List, [], ◌∷◌, Option, Some, None, refl, sym, ◌∙◌, ap, arith}
 use Rattle.std.specs.Prelude.{◌↔◌, is_none}
 use Rattle.rent_buf.specs.Held.{HeldBuf}
-use Rattle.ring_core.specs.declared.world.HandleState.{HandleState}
-use Rattle.ring_core.specs.declared.world.call.TheConstants.{INVALID, BROKEN_PIPE, FILE_TOO_BIG}
-use Rattle.ring_core.specs.declared.request.TheConstants.{CANCELED}
-use Rattle.ring_core.specs.declared.request.Call.{Call}
-use Rattle.ring_core.specs.declared.request.Call.TheVariants as call
-use Rattle.ring_core.specs.declared.request.Told.{Told}
-use Rattle.ring_core.specs.declared.request.Told.TheVariants.{Count, Fail}
-use Rattle.ring_core.specs.declared.request.Outcome.{Outcome}
-use Rattle.ring_core.specs.declared.ledger.Event.{Event}
-use Rattle.ring_core.specs.declared.ledger.Event.TheVariants.{Poll}
-use Rattle.ring_core.specs.declared.ledger.Reply.TheVariants.{Pending, Handed}
-use Rattle.ring_core.specs.Request.{call_of, sent_of}
-use Rattle.ring_core.specs.Effect.{effect, message_effect}
-use Rattle.ring_core.specs.Attempt.{answer_if, is_early, awaited, fits, is_broken, receiver, is_dry, is_too_far, greatest}
-use Rattle.ring_core.specs.Ledger.{Ledger, empty}
-use Rattle.ring_core.specs.Refusal.{cause}
-use Rattle.ring_core.proofs.Stepping.{OwnedAt, found}
+use Rattle.machine.specs.declared.world.HandleState.{HandleState}
+use Rattle.machine.specs.declared.world.call.TheConstants.{INVALID, BROKEN_PIPE, FILE_TOO_BIG}
+use Rattle.machine.specs.declared.request.TheConstants.{CANCELED}
+use Rattle.machine.specs.declared.request.Call.{Call}
+use Rattle.machine.specs.declared.request.Call.TheVariants as call
+use Rattle.machine.specs.declared.request.Told.{Told}
+use Rattle.machine.specs.declared.request.Told.TheVariants.{Count, Fail}
+use Rattle.machine.specs.declared.request.Outcome.{Outcome}
+use Rattle.machine.specs.declared.ledger.Event.{Event}
+use Rattle.machine.specs.declared.ledger.Event.TheVariants.{Poll}
+use Rattle.machine.specs.declared.ledger.Reply.TheVariants.{Pending, Handed}
+use Rattle.machine.specs.Request.{call_of, sent_of}
+use Rattle.machine.specs.Effect.{effect, message_effect}
+use Rattle.machine.specs.Attempt.{answer_if, is_early, awaited, fits, is_broken, receiver, is_dry, is_too_far, greatest}
+use Rattle.machine.specs.Ledger.{Ledger, empty}
+use Rattle.machine.specs.Refusal.{cause}
+use Rattle.machine.proofs.Stepping.{OwnedAt, found}
 use Rattle.ready_driver.specs.Spelled.{asked, blocked, spelled, spelled_reply, spelled_replies, spelled_after, ledger_behind}
 use Rattle.ready_driver.specs.Legacy.{LegacyOp, Legacy, idle}
 use Rattle.ready_driver.specs.LegacyStep.{poll_op, legacy_answered, legacy_step, legacy_after, legacy_replies}

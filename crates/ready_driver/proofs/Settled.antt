@@ -3,17 +3,17 @@ use Rattle.std.proofs.Common.{◌≡◌, ℕ, ◌+◌, Bool, true, false, List, 
 use Rattle.std.proofs.Common.{slice_get, refl, sym, ◌∙◌, ap, subst, if◌then◌else◌}
 use Rattle.rent_buf.specs.Buffer.{Buffer}
 use Rattle.rent_buf.specs.Parts.{Parts}
-use Rattle.ring_core.specs.declared.request.Request.{Request}
-use Rattle.ring_core.specs.declared.world.HandleState.{HandleState}
-use Rattle.ring_core.specs.declared.ledger.Event.TheVariants.{Turn}
-use Rattle.ring_core.specs.Ledger.{Ledger, Operation, Owner, Queued, Cancel, Item, Op, new_operation}
-use Rattle.ring_core.specs.Queue.{with_op, with_take, take_all, make_room, push, push_each}
-use Rattle.ring_core.specs.Step.{submit_step}
-use Rattle.ring_core.specs.Run.{after}
-use Rattle.ring_core.proofs.Occurring.{same, listed}
-use Rattle.ring_core.proofs.Taking.{in_queue, in_flight, in_done, Listed, listed-take_all}
-use Rattle.ring_core.proofs.Listed.{submit-joined, listed-make_room, listed-push_cancel, listed-push_close, listed-joined, listed-changed}
-use Rattle.ring_core.proofs.Staying.{Stays, stays-take_all, stays-make_room, stays-push}
+use Rattle.machine.specs.declared.request.Request.{Request}
+use Rattle.machine.specs.declared.world.HandleState.{HandleState}
+use Rattle.machine.specs.declared.ledger.Event.TheVariants.{Turn}
+use Rattle.machine.specs.Ledger.{Ledger, Operation, Owner, Queued, Cancel, Item, Op, new_operation}
+use Rattle.machine.specs.Queue.{with_op, with_take, take_all, make_room, push, push_each}
+use Rattle.machine.specs.Step.{submit_step}
+use Rattle.machine.specs.Run.{after}
+use Rattle.machine.proofs.Occurring.{same, listed}
+use Rattle.machine.proofs.Taking.{in_queue, in_flight, in_done, Listed, listed-take_all}
+use Rattle.machine.proofs.Listed.{submit-joined, listed-make_room, listed-push_cancel, listed-push_close, listed-joined, listed-changed}
+use Rattle.machine.proofs.Staying.{Stays, stays-take_all, stays-make_room, stays-push}
 use Rattle.ready_driver.specs.Spelled.{has_close, close_execs, closes_behind}
 use Rattle.ready_driver.specs.Legacy.{LegacyOp, Legacy}
 use Rattle.ready_driver.specs.Readiness.{slot_of}

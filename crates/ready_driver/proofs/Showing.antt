@@ -6,8 +6,8 @@ use Rattle.std.specs.Ordering.{nat_cmp}
 use Rattle.std.specs.FinMap.{get, empty, get-empty}
 use Rattle.handle_core.specs.declared.table.Holders.{Holders}
 use Rattle.handle_core.specs.Table.{Table, holders_at, with_holders, without_user, by_user}
-use Rattle.ring_core.specs.declared.world.HandleKind.{HandleKind}
-use Rattle.ring_core.proofs.Numbers.{same-or-not}
+use Rattle.machine.specs.declared.world.HandleKind.{HandleKind}
+use Rattle.machine.proofs.Numbers.{same-or-not}
 use Rattle.driver_core.specs.declared.slot.Slot.{Slot}
 use Rattle.driver_core.specs.Holds.{is_nobody, settled, left_holders, with_ops, without_ops, front_if, unheld_by, CanJoin, CanLeave}
 use Rattle.driver_core.specs.Members.{Membership, key_at}

@@ -6,18 +6,18 @@ use Rattle.std.proofs.lemmas.Bool.Decides.{nat_tests}
 use Rattle.std.proofs.lemmas.Option.{slice_get_within}
 use Rattle.rent_buf.specs.Buffer.{Buffer}
 use Rattle.rent_buf.specs.Parts.{Parts}
-use Rattle.ring_core.specs.declared.request.Request.{Request}
-use Rattle.ring_core.specs.declared.request.Outcome.{Outcome}
-use Rattle.ring_core.specs.declared.world.HandleState.{HandleState}
-use Rattle.ring_core.specs.Attempt.{is_readable}
-use Rattle.ring_core.specs.Effect.{made_by}
-use Rattle.ring_core.specs.Lists.{amended, has_number, passes}
-use Rattle.ring_core.specs.Request.{named}
-use Rattle.ring_core.specs.WorldCall.{IsCalled}
-use Rattle.ring_core.proofs.Leaving.{has-before, has-last, has-other}
-use Rattle.ring_core.proofs.Numbers.{same-or-not, below-or-not}
-use Rattle.ring_core.proofs.Amended.{get-amended, get-amended-other}
-use Rattle.ring_core.proofs.Appended.{get-append-within, get-append-end, get-append-past}
+use Rattle.machine.specs.declared.request.Request.{Request}
+use Rattle.machine.specs.declared.request.Outcome.{Outcome}
+use Rattle.machine.specs.declared.world.HandleState.{HandleState}
+use Rattle.machine.specs.Attempt.{is_readable}
+use Rattle.machine.specs.Effect.{made_by}
+use Rattle.machine.specs.Lists.{amended, has_number, passes}
+use Rattle.machine.specs.Request.{named}
+use Rattle.machine.specs.WorldCall.{IsCalled}
+use Rattle.machine.proofs.Leaving.{has-before, has-last, has-other}
+use Rattle.machine.proofs.Numbers.{same-or-not, below-or-not}
+use Rattle.machine.proofs.Amended.{get-amended, get-amended-other}
+use Rattle.machine.proofs.Appended.{get-append-within, get-append-end, get-append-past}
 use Rattle.ready_driver.specs.Due.{Duty, with_due, with_each_due}
 use Rattle.ready_driver.specs.Io.{IsDue, KeepsShown, AreDue}
 use Rattle.ready_driver.specs.MemIo.{Memory, memory_view}

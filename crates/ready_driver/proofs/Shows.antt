@@ -2,14 +2,14 @@
 use Rattle.std.proofs.Common.{◌≡◌, ℕ, Bool, false, ◌&&◌, List, [], ◌∷◌, ◌++◌, length, map, Option, Some, None, option_map, slice_get}
 use Rattle.std.proofs.Common.{refl, sym, ◌∙◌, ap, if◌then◌else◌}
 use Rattle.std.proofs.lemmas.List.{length-map}
-use Rattle.ring_core.specs.Lists.{numbers_where, has_number}
-use Rattle.ring_core.specs.Request.{named}
-use Rattle.ring_core.specs.Ledger.{Ledger, Operation, Place, InQueue, InFlight, InDone, Reaped, Gone, User, ByOp, is_kept, is_holding}
-use Rattle.ring_core.specs.Ledger.{user_holds}
-use Rattle.ring_core.specs.Ledger.{with_made, holders}
-use Rattle.ring_core.specs.Queue.{take_all}
-use Rattle.ring_core.proofs.Taken.{length-take_each}
-use Rattle.ring_core.proofs.Taking.{Took, take_all-ops, taken_place, with_taking}
+use Rattle.machine.specs.Lists.{numbers_where, has_number}
+use Rattle.machine.specs.Request.{named}
+use Rattle.machine.specs.Ledger.{Ledger, Operation, Place, InQueue, InFlight, InDone, Reaped, Gone, User, ByOp, is_kept, is_holding}
+use Rattle.machine.specs.Ledger.{user_holds}
+use Rattle.machine.specs.Ledger.{with_made, holders}
+use Rattle.machine.specs.Queue.{take_all}
+use Rattle.machine.proofs.Taken.{length-take_each}
+use Rattle.machine.proofs.Taking.{Took, take_all-ops, taken_place, with_taking}
 use Rattle.ready_driver.specs.Spelled.{asked}
 use Rattle.ready_driver.specs.Legacy.{Legacy, slot_in, slot_at, is_on, holders_at}
 use Rattle.ready_driver.specs.Readiness.{slot_of_op, Shows}

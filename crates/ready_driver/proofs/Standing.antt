@@ -10,16 +10,16 @@ use Rattle.handle_core.specs.declared.table.Holders.{Holders}
 use Rattle.handle_core.specs.Table.{Table, holders_at, with_holders, nobody, by_user, with_user, with_operation}
 use Rattle.rent_buf.specs.Buffer.{Buffer}
 use Rattle.rent_buf.specs.Parts.{Parts}
-use Rattle.ring_core.specs.declared.request.Request.{Request}
-use Rattle.ring_core.specs.declared.world.HandleState.{HandleState}
-use Rattle.ring_core.specs.Lists.{numbers_where, has_number, passes}
-use Rattle.ring_core.specs.Ranks.{one_if}
-use Rattle.ring_core.specs.Request.{named}
-use Rattle.ring_core.proofs.Numbers.{same-or-not, none-of}
-use Rattle.ring_core.proofs.Amended.{get-amended-same, get-amended-other, length-amended, joined-cases}
-use Rattle.ring_core.proofs.Appended.{get-append-end}
-use Rattle.ring_core.proofs.Leaving.{named-ascends, has-first, has-later}
-use Rattle.ring_core.proofs.Where.{where-joined}
+use Rattle.machine.specs.declared.request.Request.{Request}
+use Rattle.machine.specs.declared.world.HandleState.{HandleState}
+use Rattle.machine.specs.Lists.{numbers_where, has_number, passes}
+use Rattle.machine.specs.Lists.{one_if}
+use Rattle.machine.specs.Request.{named}
+use Rattle.machine.proofs.Numbers.{same-or-not, none-of}
+use Rattle.machine.proofs.Amended.{get-amended-same, get-amended-other, length-amended, joined-cases}
+use Rattle.machine.proofs.Appended.{get-append-end}
+use Rattle.machine.proofs.Leaving.{named-ascends, has-first, has-later}
+use Rattle.machine.proofs.Where.{where-joined}
 use Rattle.driver_core.specs.Holds.{with_ops, CanJoin}
 use Rattle.driver_core.proofs.Distinct.{ascends-distinct}
 use Rattle.driver_core.proofs.Maps.{put-same, put-other}

@@ -5,21 +5,21 @@ use Rattle.std.specs.Prelude.{nat_lt}
 use Rattle.std.proofs.lemmas.Bool.Decides.{nat_tests}
 use Rattle.rent_buf.specs.Buffer.{Buffer}
 use Rattle.rent_buf.specs.Parts.{Parts}
-use Rattle.ring_core.specs.declared.request.Request.{Request}
-use Rattle.ring_core.specs.declared.request.Request.TheVariants.{Recv, ReadVec, Send, WriteVec, RecvMsg, SendMsg, Read, Write}
-use Rattle.ring_core.specs.declared.request.Request.TheVariants.{SpliceTo, SpliceFrom, Accept, Open, Connect, Fsync, PollAdd, MkDir, Rename}
-use Rattle.ring_core.specs.declared.request.Request.TheVariants.{Unlink}
-use Rattle.ring_core.specs.declared.request.Told.{Told}
-use Rattle.ring_core.specs.declared.request.Told.TheVariants.{Count, Fail}
-use Rattle.ring_core.specs.declared.world.HandleState.{HandleState}
-use Rattle.ring_core.specs.Lists.{amended, has_number}
-use Rattle.ring_core.specs.Request.{both, named}
-use Rattle.ring_core.specs.World.{messages_at}
-use Rattle.ring_core.specs.Effect.{without_front, without_message, message_effect}
-use Rattle.ring_core.specs.WorldCall.{call_effect}
-use Rattle.ring_core.proofs.Numbers.{equal-self}
-use Rattle.ring_core.proofs.Amended.{get-amended-other}
-use Rattle.ring_core.proofs.Appended.{get-append-within}
+use Rattle.machine.specs.declared.request.Request.{Request}
+use Rattle.machine.specs.declared.request.Request.TheVariants.{Recv, ReadVec, Send, WriteVec, RecvMsg, SendMsg, Read, Write}
+use Rattle.machine.specs.declared.request.Request.TheVariants.{SpliceTo, SpliceFrom, Accept, Open, Connect, Fsync, PollAdd, MkDir, Rename}
+use Rattle.machine.specs.declared.request.Request.TheVariants.{Unlink}
+use Rattle.machine.specs.declared.request.Told.{Told}
+use Rattle.machine.specs.declared.request.Told.TheVariants.{Count, Fail}
+use Rattle.machine.specs.declared.world.HandleState.{HandleState}
+use Rattle.machine.specs.Lists.{amended, has_number}
+use Rattle.machine.specs.Request.{both, named}
+use Rattle.machine.specs.World.{messages_at}
+use Rattle.machine.specs.Effect.{without_front, without_message, message_effect}
+use Rattle.machine.specs.WorldCall.{call_effect}
+use Rattle.machine.proofs.Numbers.{equal-self}
+use Rattle.machine.proofs.Amended.{get-amended-other}
+use Rattle.machine.proofs.Appended.{get-append-within}
 use Rattle.driver_core.specs.declared.slot.Slot.{Slot}
 use Rattle.driver_core.specs.Holds.{named_in}
 use Rattle.driver_core.specs.Slot.{is_flying}

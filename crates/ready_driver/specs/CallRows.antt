@@ -1,18 +1,18 @@
 -- Worked runs of a readiness driver over handles in memory of each kind: a capacity of the machine, the events, and their replies.
 use Rattle.std.specs.Prelude.{[], ◌∷◌, true, false, None}
 use Rattle.rent_buf.specs.declared.held.Held.TheVariants.{One, Nothing}
-use Rattle.ring_core.specs.declared.world.TheConstants.{MOST_FILE}
-use Rattle.ring_core.specs.declared.world.call.TheConstants.{INVALID, BROKEN_PIPE, FILE_TOO_BIG}
-use Rattle.ring_core.specs.declared.world.HandleKind.TheVariants.{Stream, Datagram, File, Pipe, Listener}
-use Rattle.ring_core.specs.declared.request.Request.TheVariants.{Recv, Send, RecvMsg, SendMsg, Read, Write, SpliceTo, SpliceFrom, Accept}
-use Rattle.ring_core.specs.declared.request.Request.TheVariants.{Open}
-use Rattle.ring_core.specs.declared.request.Request.TheVariants.{PollAdd}
-use Rattle.ring_core.specs.declared.request.Outcome.{Outcome}
-use Rattle.ring_core.specs.declared.ledger.Event.TheVariants.{Give, Feed, FeedMessage, End, Look, Close, Submit, Poll, Drop}
-use Rattle.ring_core.specs.declared.ledger.Refusal.TheVariants.{NoHandle, BadHandleEvent}
-use Rattle.ring_core.specs.declared.ledger.Reply.TheVariants.{Handle, Fed, Ended, Released, Output, Messages, Submitted, Pending, Handed}
-use Rattle.ring_core.specs.declared.ledger.Reply.TheVariants.{Dropped, Refused}
-use Rattle.ring_core.specs.Rows.{vector}
+use Rattle.machine.specs.declared.world.TheConstants.{MOST_FILE}
+use Rattle.machine.specs.declared.world.call.TheConstants.{INVALID, BROKEN_PIPE, FILE_TOO_BIG}
+use Rattle.machine.specs.declared.world.HandleKind.TheVariants.{Stream, Datagram, File, Pipe, Listener}
+use Rattle.machine.specs.declared.request.Request.TheVariants.{Recv, Send, RecvMsg, SendMsg, Read, Write, SpliceTo, SpliceFrom, Accept}
+use Rattle.machine.specs.declared.request.Request.TheVariants.{Open}
+use Rattle.machine.specs.declared.request.Request.TheVariants.{PollAdd}
+use Rattle.machine.specs.declared.request.Outcome.{Outcome}
+use Rattle.machine.specs.declared.ledger.Event.TheVariants.{Give, Feed, FeedMessage, End, Look, Close, Submit, Poll, Drop}
+use Rattle.machine.specs.declared.ledger.Refusal.TheVariants.{NoHandle, BadHandleEvent}
+use Rattle.machine.specs.declared.ledger.Reply.TheVariants.{Handle, Fed, Ended, Released, Output, Messages, Submitted, Pending, Handed}
+use Rattle.machine.specs.declared.ledger.Reply.TheVariants.{Dropped, Refused}
+use Rattle.machine.specs.Rows.{vector}
 use Rattle.ready_driver.specs.SpelledRows.{AnswersBoth}
 
 -- A receive waits for a message, of which the first bytes come, with its address; a send of one doesn't wait. A read of bytes of a datagram

@@ -1,7 +1,7 @@
 -- What opening a handle does: listening on a port, or dialling one. Cited by `LegacyDriver`.
 use Rattle.std.specs.Prelude.{ℕ, ◌≡◌, ◌⊎◌, Bool, true, false, Result, Ok, Err}
-use Rattle.ring_core.specs.declared.world.call.TheConstants.{INVALID}
-use Rattle.ring_core.specs.declared.world.HandleKind.{HandleKind}
+use Rattle.machine.specs.declared.world.call.TheConstants.{INVALID}
+use Rattle.machine.specs.declared.world.HandleKind.{HandleKind}
 use Rattle.ready_driver.specs.declared.non_block.NonBlockError.{NonBlockError}
 use Rattle.ready_driver.specs.declared.non_block.NonBlockError.TheVariants.{Fault}
 use Rattle.ready_driver.specs.Io.{IoView, IsStill, FaultsFor}

@@ -1,7 +1,7 @@
 -- Handles whose report is due. Cited by `Due`.
 use Rattle.std.specs.Prelude.{ℕ, suc, ◌≡◌, ◌≤◌, Bool, true, false, not, ◌&&◌, nat_lt, if◌then◌else◌}
 use Rattle.std.specs.Prelude.{List, [], ◌∷◌, ◌++◌, length, get_or}
-use Rattle.ring_core.specs.Lists.{has_number}
+use Rattle.machine.specs.Lists.{has_number}
 
 -- The handles that are due, in the order in which they became so, and of how many handles each can be.
 pub record Duty : Type 0 where

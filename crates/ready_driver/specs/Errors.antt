@@ -4,10 +4,10 @@ use Rattle.std.specs.FinMap as map
 use Rattle.rent_buf.specs.Counts.{Rose}
 use Rattle.rent_buf.specs.declared.fault.OutOfMemory.{OutOfMemory}
 use Rattle.handle_core.specs.Table.{Table}
-use Rattle.ring_core.specs.declared.request.TheConstants.{CANCELED}
-use Rattle.ring_core.specs.declared.request.Outcome.{Outcome}
-use Rattle.ring_core.specs.declared.request.Outcome.TheVariants.{Count, From, Made, Fail}
-use Rattle.ring_core.specs.declared.world.call.TheConstants.{INVALID}
+use Rattle.machine.specs.declared.request.TheConstants.{CANCELED}
+use Rattle.machine.specs.declared.request.Outcome.{Outcome}
+use Rattle.machine.specs.declared.request.Outcome.TheVariants.{Count, From, Made, Fail}
+use Rattle.machine.specs.declared.world.call.TheConstants.{INVALID}
 use Rattle.driver_core.specs.declared.op.Op.{Op}
 use Rattle.driver_core.specs.declared.op.PollOp.{PollOp}
 use Rattle.driver_core.specs.declared.op.PollOp.TheVariants.{Pending, Ready}

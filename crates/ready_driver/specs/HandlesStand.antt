@@ -2,7 +2,7 @@
 -- `LegacyDriver`.
 use Rattle.std.specs.Prelude.{ℕ, ◌≡◌, List, length, Option}
 use Rattle.handle_core.specs.Table.{Table, holders_at}
-use Rattle.ring_core.specs.Lists.{numbers_where}
+use Rattle.machine.specs.Lists.{numbers_where}
 use Rattle.ready_driver.specs.Legacy.{Legacy, holds_at, is_on}
 use Rattle.ready_driver.specs.Registry.{is_users, AreKeyed}
 

@@ -4,22 +4,22 @@ use Rattle.std.specs.Prelude.{slice_get, Result, Ok, Err}
 use Rattle.rent_buf.specs.Buffer.{Buffer}
 use Rattle.rent_buf.specs.Parts.{Parts}
 use Rattle.rent_buf.specs.Counts.{Rose}
-use Rattle.ring_core.specs.declared.request.TheConstants.{MOST_ASKED}
-use Rattle.ring_core.specs.declared.request.Request.{Request}
-use Rattle.ring_core.specs.declared.request.Request.TheVariants.{SpliceTo, SpliceFrom}
-use Rattle.ring_core.specs.declared.request.Way.{Way}
-use Rattle.ring_core.specs.declared.request.Way.TheVariants.{Reads, Sends, Neither}
-use Rattle.ring_core.specs.declared.request.Told.{Told}
-use Rattle.ring_core.specs.declared.request.Told.TheVariants.{Count as Counts, Fail as Fails}
-use Rattle.ring_core.specs.declared.request.Outcome.{Outcome}
-use Rattle.ring_core.specs.declared.request.Outcome.TheVariants.{Count, From, Made, Fail}
-use Rattle.ring_core.specs.declared.world.HandleState.{HandleState}
-use Rattle.ring_core.specs.Lists.{has_number}
-use Rattle.ring_core.specs.Request.{named, call_of, makes, way_of, held_of, held_want, held_after, held, sent_of, IsHolding}
-use Rattle.ring_core.specs.Outcome.{may_count}
-use Rattle.ring_core.specs.Attempt.{attempt, is_readable_at}
-use Rattle.ring_core.specs.Effect.{made_by}
-use Rattle.ring_core.specs.WorldCall.{IsCalled, call_effect}
+use Rattle.machine.specs.declared.request.TheConstants.{MOST_ASKED}
+use Rattle.machine.specs.declared.request.Request.{Request}
+use Rattle.machine.specs.declared.request.Request.TheVariants.{SpliceTo, SpliceFrom}
+use Rattle.machine.specs.declared.request.Way.{Way}
+use Rattle.machine.specs.declared.request.Way.TheVariants.{Reads, Sends, Neither}
+use Rattle.machine.specs.declared.request.Told.{Told}
+use Rattle.machine.specs.declared.request.Told.TheVariants.{Count as Counts, Fail as Fails}
+use Rattle.machine.specs.declared.request.Outcome.{Outcome}
+use Rattle.machine.specs.declared.request.Outcome.TheVariants.{Count, From, Made, Fail}
+use Rattle.machine.specs.declared.world.HandleState.{HandleState}
+use Rattle.machine.specs.Lists.{has_number}
+use Rattle.machine.specs.Request.{named, call_of, makes, way_of, held_of, held_want, held_after, held, sent_of, IsHolding}
+use Rattle.machine.specs.Outcome.{may_count}
+use Rattle.machine.specs.Attempt.{attempt, is_readable_at}
+use Rattle.machine.specs.Effect.{made_by}
+use Rattle.machine.specs.WorldCall.{IsCalled, call_effect}
 use Rattle.driver_core.specs.declared.operations.calls.CallAnswer.{CallAnswer}
 use Rattle.driver_core.specs.declared.operations.calls.CallAnswer.TheVariants.{Done, WouldBlock, OutOfMemory}
 use Rattle.ready_driver.specs.declared.non_block.Report.{Report}

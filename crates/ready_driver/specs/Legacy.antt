@@ -4,11 +4,11 @@ use Rattle.std.specs.Prelude.{ℕ, Bool, false, ◌==◌, if◌then◌else◌, L
 use Rattle.std.specs.Prelude.{Option, Some, None, is_some, slice_get}
 use Rattle.rent_buf.specs.Buffer.{Buffer}
 use Rattle.rent_buf.specs.Parts.{Parts}
-use Rattle.ring_core.specs.declared.request.Request.{Request}
-use Rattle.ring_core.specs.declared.world.HandleState.{HandleState}
-use Rattle.ring_core.specs.Lists.{numbers_where, has_number, passes}
-use Rattle.ring_core.specs.Request.{named}
-use Rattle.ring_core.specs.Ledger.{Ledger, Holder, User, ByOp, empty, is_marked}
+use Rattle.machine.specs.declared.request.Request.{Request}
+use Rattle.machine.specs.declared.world.HandleState.{HandleState}
+use Rattle.machine.specs.Lists.{numbers_where, has_number, passes}
+use Rattle.machine.specs.Request.{named}
+use Rattle.machine.specs.Ledger.{Ledger, Holder, User, ByOp, empty, is_marked}
 
 -- An operation that isn't gone: the request that was submitted, the group that it was submitted under, and whether its cancel is asked for.
 pub record LegacyOp : Type 0 where

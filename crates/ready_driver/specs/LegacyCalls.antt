@@ -6,8 +6,8 @@ use Rattle.std.specs.FinMap as map
 use Rattle.rent_buf.specs.Counts.{Rose}
 use Rattle.rent_buf.specs.Parts.{Parts}
 use Rattle.op_slots.specs.declared.slab.TheConstants.{MAX_LIVE}
-use Rattle.ring_core.specs.declared.request.Request.{Request}
-use Rattle.ring_core.specs.Request.{named}
+use Rattle.machine.specs.declared.request.Request.{Request}
+use Rattle.machine.specs.Request.{named}
 use Rattle.driver_core.specs.declared.op.Op.{Op as Token}
 use Rattle.driver_core.specs.declared.op.SubmitError.{SubmitError}
 use Rattle.driver_core.specs.declared.op.SubmitFault.{SubmitFault}

@@ -1,14 +1,14 @@
 -- What the calls on handles in memory answer. Cited by `feed`, `feed_message`, `end` and `look` of the readiness driver.
 use Rattle.std.specs.Prelude.{ℕ, ◌≡◌, List, Some, None, Result, Ok, Err}
 use Rattle.rent_buf.specs.Buffer.{Buffer}
-use Rattle.ring_core.specs.declared.world.Look.{Look}
-use Rattle.ring_core.specs.declared.world.WorldError.{WorldError}
-use Rattle.ring_core.specs.declared.world.WorldError.TheVariants.{BadHandleEvent, OutOfMemory}
-use Rattle.ring_core.specs.declared.ledger.Event.{Event}
-use Rattle.ring_core.specs.declared.ledger.Event.TheVariants.{Feed, FeedMessage, End, Look as Looks}
-use Rattle.ring_core.specs.declared.ledger.Reply.TheVariants.{Fed, Ended}
-use Rattle.ring_core.specs.declared.ledger.Refusal.TheVariants.{BadHandleEvent as NotTaken}
-use Rattle.ring_core.specs.Step.{look_reply}
+use Rattle.machine.specs.declared.world.Look.{Look}
+use Rattle.machine.specs.declared.world.WorldError.{WorldError}
+use Rattle.machine.specs.declared.world.WorldError.TheVariants.{BadHandleEvent, OutOfMemory}
+use Rattle.machine.specs.declared.ledger.Event.{Event}
+use Rattle.machine.specs.declared.ledger.Event.TheVariants.{Feed, FeedMessage, End, Look as Looks}
+use Rattle.machine.specs.declared.ledger.Reply.TheVariants.{Fed, Ended}
+use Rattle.machine.specs.declared.ledger.Refusal.TheVariants.{BadHandleEvent as NotTaken}
+use Rattle.machine.specs.Step.{look_reply}
 use Rattle.ready_driver.specs.Legacy.{Legacy}
 use Rattle.ready_driver.specs.LegacyState.{LegacyState}
 use Rattle.ready_driver.specs.LegacyStands.{LegacyStands, LegacyAnswers}

@@ -4,27 +4,27 @@ use Rattle.std.specs.Prelude.{ℕ, Bool, true, false, not, ◌&&◌, ◌||◌, n
 use Rattle.std.specs.Prelude.{Option, Some, None, is_some, option_map}
 use Rattle.rent_buf.specs.Buffer.{Buffer}
 use Rattle.rent_buf.specs.Parts.{Parts}
-use Rattle.ring_core.specs.declared.request.TheConstants.{CANCELED}
-use Rattle.ring_core.specs.declared.request.Request.{Request}
-use Rattle.ring_core.specs.declared.request.Told.{Told}
-use Rattle.ring_core.specs.declared.request.Told.TheVariants.{Fail}
-use Rattle.ring_core.specs.declared.ledger.TheConstants.{MOST_LIVE}
-use Rattle.ring_core.specs.declared.ledger.Event.{Event}
-use Rattle.ring_core.specs.declared.ledger.Event.TheVariants.{Give, Feed, FeedMessage, End, Look, Close, Submit, Poll, Drop, Cancel}
-use Rattle.ring_core.specs.declared.ledger.Event.TheVariants.{NewCanceller, NewHandle, CancelAll, Turn, Exec}
-use Rattle.ring_core.specs.declared.ledger.Refusal.{Refusal}
-use Rattle.ring_core.specs.declared.ledger.Refusal.TheVariants.{NoOp, NoCanceller, NoHandle, Full, BadHandleEvent}
-use Rattle.ring_core.specs.declared.ledger.Reply.{Reply}
-use Rattle.ring_core.specs.declared.ledger.Reply.TheVariants.{Handle, Fed, Ended, Released, Submitted, Pending, Handed, Dropped}
-use Rattle.ring_core.specs.declared.ledger.Reply.TheVariants.{Asked, CanceledAtOnce, Canceller, CancelHandle, Cancels, Refused}
-use Rattle.ring_core.specs.Lists.{amended}
-use Rattle.ring_core.specs.Request.{named, call_of, sent_of, held_of, held}
-use Rattle.ring_core.specs.World.{fresh, with_input, with_message, with_end, look_at}
-use Rattle.ring_core.specs.Attempt.{attempt}
-use Rattle.ring_core.specs.Effect.{Effect, effect, made_by}
-use Rattle.ring_core.specs.Ledger.{is_under_marked, group_under}
-use Rattle.ring_core.specs.Refusal.{refused_if, has_no_canceller, has_bad_handle_event}
-use Rattle.ring_core.specs.Step.{group_of, look_reply}
+use Rattle.machine.specs.declared.request.TheConstants.{CANCELED}
+use Rattle.machine.specs.declared.request.Request.{Request}
+use Rattle.machine.specs.declared.request.Told.{Told}
+use Rattle.machine.specs.declared.request.Told.TheVariants.{Fail}
+use Rattle.machine.specs.declared.ledger.TheConstants.{MOST_LIVE}
+use Rattle.machine.specs.declared.ledger.Event.{Event}
+use Rattle.machine.specs.declared.ledger.Event.TheVariants.{Give, Feed, FeedMessage, End, Look, Close, Submit, Poll, Drop, Cancel}
+use Rattle.machine.specs.declared.ledger.Event.TheVariants.{NewCanceller, NewHandle, CancelAll, Turn, Exec}
+use Rattle.machine.specs.declared.ledger.Refusal.{Refusal}
+use Rattle.machine.specs.declared.ledger.Refusal.TheVariants.{NoOp, NoCanceller, NoHandle, Full, BadHandleEvent}
+use Rattle.machine.specs.declared.ledger.Reply.{Reply}
+use Rattle.machine.specs.declared.ledger.Reply.TheVariants.{Handle, Fed, Ended, Released, Submitted, Pending, Handed, Dropped}
+use Rattle.machine.specs.declared.ledger.Reply.TheVariants.{Asked, CanceledAtOnce, Canceller, CancelHandle, Cancels, Refused}
+use Rattle.machine.specs.Lists.{amended}
+use Rattle.machine.specs.Request.{named, call_of, sent_of, held_of, held}
+use Rattle.machine.specs.World.{fresh, with_input, with_message, with_end, look_at}
+use Rattle.machine.specs.Attempt.{attempt}
+use Rattle.machine.specs.Effect.{Effect, effect, made_by}
+use Rattle.machine.specs.Ledger.{is_under_marked, group_under}
+use Rattle.machine.specs.Refusal.{refused_if, has_no_canceller, has_bad_handle_event}
+use Rattle.machine.specs.Step.{group_of, look_reply}
 use Rattle.ready_driver.specs.Legacy.{LegacyOp, Legacy, seen, slot_at, live_at, holds_at, members_at}
 
 -- NoOp: the operation was never submitted, or is gone.

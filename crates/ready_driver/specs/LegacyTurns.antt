@@ -2,7 +2,7 @@
 use Rattle.std.specs.Prelude.{ℕ, ◌≡◌, ◌⊎◌, ◌++◌, Bool, false, IsTrue, IfNone, List, [], Option, Some, None}
 use Rattle.rent_buf.specs.Buffer.{Buffer}
 use Rattle.rent_buf.specs.Counts.{Rose}
-use Rattle.ring_core.specs.Ledger.{Ledger}
+use Rattle.machine.specs.Ledger.{Ledger}
 use Rattle.wake_core.specs.declared.park.Woken.{Woken}
 use Rattle.wake_core.specs.Sleeping.{Sleeping, Waits, LooksOut, is_still, at_most_one}
 use Rattle.driver_core.specs.declared.driver.Parked.{Parked}

@@ -1,7 +1,7 @@
 -- Handles in memory as an object whose calls don't wait. Cited by `MemIo`.
 use Rattle.std.specs.Prelude.{ℕ, Bool, true, List, [], length, Option, Some}
-use Rattle.ring_core.specs.declared.world.HandleState.{HandleState}
-use Rattle.ring_core.specs.Attempt.{is_file_at}
+use Rattle.machine.specs.declared.world.HandleState.{HandleState}
+use Rattle.machine.specs.Attempt.{is_file_at}
 use Rattle.ready_driver.specs.Calling.{Called}
 use Rattle.ready_driver.specs.Io.{IoView, CallsFor}
 use Rattle.ready_driver.specs.Reports.{reports_of}

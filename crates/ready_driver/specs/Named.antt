@@ -6,12 +6,12 @@ use Rattle.rent_buf.specs.declared.fault.OutOfMemory.{OutOfMemory}
 use Rattle.handle_core.specs.Table.{Table, holders_at}
 use Rattle.op_slots.specs.declared.lifecycle.Lifecycle.{Lifecycle}
 use Rattle.op_slots.specs.declared.lifecycle.Lifecycle.TheVariants.{Submitted, Waiting, Ignored, Completed}
-use Rattle.ring_core.specs.declared.request.TheConstants.{CANCELED}
-use Rattle.ring_core.specs.declared.request.Outcome.{Outcome}
-use Rattle.ring_core.specs.declared.request.Outcome.TheVariants.{Fail}
-use Rattle.ring_core.specs.Effect.{made_by}
-use Rattle.ring_core.specs.Lists.{has_number}
-use Rattle.ring_core.specs.Request.{named}
+use Rattle.machine.specs.declared.request.TheConstants.{CANCELED}
+use Rattle.machine.specs.declared.request.Outcome.{Outcome}
+use Rattle.machine.specs.declared.request.Outcome.TheVariants.{Fail}
+use Rattle.machine.specs.Effect.{made_by}
+use Rattle.machine.specs.Lists.{has_number}
+use Rattle.machine.specs.Request.{named}
 use Rattle.driver_core.specs.declared.op.Done.{Done}
 use Rattle.driver_core.specs.declared.op.Op.{Op}
 use Rattle.driver_core.specs.declared.op.PollOp.{PollOp}

@@ -8,14 +8,14 @@ use Rattle.rent_buf.specs.Counts.{Rose}
 use Rattle.rent_buf.specs.declared.fault.OutOfMemory.{OutOfMemory}
 use Rattle.op_slots.specs.declared.lifecycle.Lifecycle.{Lifecycle}
 use Rattle.op_slots.specs.declared.lifecycle.Lifecycle.TheVariants.{Submitted, Waiting, Ignored, Completed}
-use Rattle.ring_core.specs.declared.request.TheConstants.{CANCELED}
-use Rattle.ring_core.specs.declared.request.Outcome.{Outcome}
-use Rattle.ring_core.specs.declared.request.Request.{Request}
-use Rattle.ring_core.specs.declared.request.Outcome.TheVariants.{Fail}
-use Rattle.ring_core.specs.declared.world.HandleState.{HandleState}
-use Rattle.ring_core.specs.declared.ledger.Reply.TheVariants.{Pending as Waits, Handed}
-use Rattle.ring_core.specs.Lists.{amended}
-use Rattle.ring_core.specs.Request.{plain_request, held_of}
+use Rattle.machine.specs.declared.request.TheConstants.{CANCELED}
+use Rattle.machine.specs.declared.request.Outcome.{Outcome}
+use Rattle.machine.specs.declared.request.Request.{Request}
+use Rattle.machine.specs.declared.request.Outcome.TheVariants.{Fail}
+use Rattle.machine.specs.declared.world.HandleState.{HandleState}
+use Rattle.machine.specs.declared.ledger.Reply.TheVariants.{Pending as Waits, Handed}
+use Rattle.machine.specs.Lists.{amended}
+use Rattle.machine.specs.Request.{plain_request, held_of}
 use Rattle.driver_core.specs.declared.op.Op.{Op}
 use Rattle.driver_core.specs.declared.op.PollOp.{PollOp}
 use Rattle.driver_core.specs.declared.op.PollOp.TheVariants.{Pending, Ready}

@@ -1,13 +1,13 @@
 -- What a readiness driver over handles in memory is to the machine: the laws that `readiness` states.
 use Rattle.std.specs.Prelude.{ℕ, ◌≡◌, ◌↔◌, Bool, true, List, [], ◌∷◌, length, Option, Some, None, slice_get}
 use Rattle.rent_buf.specs.Held.{HeldBuf}
-use Rattle.ring_core.specs.declared.request.TheConstants.{CANCELED}
-use Rattle.ring_core.specs.declared.request.Outcome.{Outcome}
-use Rattle.ring_core.specs.declared.ledger.Event.{Event}
-use Rattle.ring_core.specs.declared.ledger.Event.TheVariants.{Submit, Poll, Turn, Exec}
-use Rattle.ring_core.specs.declared.ledger.Reply.TheVariants.{Pending, Handed}
-use Rattle.ring_core.specs.Ledger.{Ledger, Operation, Place, Gone, empty, user_holds, members, holders}
-use Rattle.ring_core.specs.Refusal.{cause}
+use Rattle.machine.specs.declared.request.TheConstants.{CANCELED}
+use Rattle.machine.specs.declared.request.Outcome.{Outcome}
+use Rattle.machine.specs.declared.ledger.Event.{Event}
+use Rattle.machine.specs.declared.ledger.Event.TheVariants.{Submit, Poll, Turn, Exec}
+use Rattle.machine.specs.declared.ledger.Reply.TheVariants.{Pending, Handed}
+use Rattle.machine.specs.Ledger.{Ledger, Operation, Place, Gone, empty, user_holds, members, holders}
+use Rattle.machine.specs.Refusal.{cause}
 use Rattle.ready_driver.specs.Spelled.{asked, blocked, spelled, spelled_reply, spelled_replies, spelled_after}
 use Rattle.ready_driver.specs.Legacy.{LegacyOp, Legacy, idle, slot_at, holds_at, members_at, holders_at}
 use Rattle.ready_driver.specs.LegacyStep.{legacy_after, legacy_replies}

@@ -1,9 +1,9 @@
 -- What a world in memory reports: each handle that is due, with the key that it is registered with; and when bits show a handle. Cited by
 -- `NonBlock` and `MemIo`.
 use Rattle.std.specs.Prelude.{ℕ, ◌≡◌, Bool, true, false, List, [], ◌∷◌, ◌++◌, Option, None, Some, slice_get, bit_or}
-use Rattle.ring_core.specs.declared.world.HandleState.{HandleState}
-use Rattle.ring_core.specs.Lists.{amended}
-use Rattle.ring_core.specs.Attempt.{is_readable_at}
+use Rattle.machine.specs.declared.world.HandleState.{HandleState}
+use Rattle.machine.specs.Lists.{amended}
+use Rattle.machine.specs.Attempt.{is_readable_at}
 use Rattle.ready_driver.specs.declared.ready.TheConstants.{READABLE, WRITABLE}
 use Rattle.ready_driver.specs.declared.ready.Direction.TheVariants.{Read, Write}
 use Rattle.ready_driver.specs.declared.non_block.Report.{Report}

@@ -3,11 +3,11 @@ use Rattle.std.specs.Prelude.{ℕ, ◌≡◌, true, false, IsTrue, length, refl}
 use Rattle.std.proofs.Common.{ap, sym}
 use Rattle.rent_buf.specs.Buffer.{Buffer}
 use Rattle.rent_buf.specs.Parts.{Parts}
-use Rattle.ring_core.specs.declared.request.Request.{Request}
-use Rattle.ring_core.specs.declared.request.Outcome.TheVariants.{Made}
-use Rattle.ring_core.specs.Request.{call_of, sent_of}
-use Rattle.ring_core.specs.Effect.{made_by}
-use Rattle.ring_core.proofs.Turning.{grows-effect}
+use Rattle.machine.specs.declared.request.Request.{Request}
+use Rattle.machine.specs.declared.request.Outcome.TheVariants.{Made}
+use Rattle.machine.specs.Request.{call_of, sent_of}
+use Rattle.machine.specs.Effect.{made_by}
+use Rattle.machine.proofs.Turning.{grows-effect}
 use Rattle.driver_core.specs.declared.operations.calls.CallAnswer.TheVariants.{Done}
 use Rattle.ready_driver.specs.Io.{CallsFor}
 use Rattle.ready_driver.specs.MemIo.{Memory, memory_view}

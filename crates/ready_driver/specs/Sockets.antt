@@ -1,7 +1,7 @@
 -- What listening and dialling do. Cited by `Sockets`.
 use Rattle.std.specs.Prelude.{ℕ, suc, ◌≡◌, Bool, IsTrue, [], ◌∷◌, ◌++◌, None, Result, Ok, Err}
-use Rattle.ring_core.specs.declared.world.HandleKind.{HandleKind}
-use Rattle.ring_core.specs.World.{fresh}
+use Rattle.machine.specs.declared.world.HandleKind.{HandleKind}
+use Rattle.machine.specs.World.{fresh}
 use Rattle.ready_driver.specs.declared.non_block.NonBlockError.{NonBlockError}
 use Rattle.ready_driver.specs.Io.{IoView, IsLater, IsStill, KeepsShown, FaultsFor}
 

@@ -5,20 +5,20 @@
 -- that the operation is gone at once, and so is each event after which a handle is closed.
 use Rattle.std.specs.Prelude.{ℕ, suc, Bool, true, false, not, ◌&&◌, ◌||◌, ◌==◌, if◌then◌else◌, List, [], ◌∷◌, ◌++◌}
 use Rattle.std.specs.Prelude.{Option, Some, None, unwrap_or, is_none, slice_get}
-use Rattle.ring_core.specs.declared.request.TheConstants.{CANCELED}
-use Rattle.ring_core.specs.declared.request.Told.{Told}
-use Rattle.ring_core.specs.declared.request.Told.TheVariants.{Count, Fail}
-use Rattle.ring_core.specs.declared.ledger.Event.{Event}
-use Rattle.ring_core.specs.declared.ledger.Event.TheVariants.{Poll, Drop, Turn, Exec}
-use Rattle.ring_core.specs.declared.ledger.Refusal.{Refusal}
-use Rattle.ring_core.specs.declared.ledger.Reply.{Reply}
-use Rattle.ring_core.specs.Lists.{passes}
-use Rattle.ring_core.specs.Request.{call_of}
-use Rattle.ring_core.specs.Attempt.{attempt}
-use Rattle.ring_core.specs.Ledger.{Ledger, Operation, Queued, Req, Item, Op}
-use Rattle.ring_core.specs.Refusal.{cause}
-use Rattle.ring_core.specs.Step.{step}
-use Rattle.ring_core.specs.Run.{after}
+use Rattle.machine.specs.declared.request.TheConstants.{CANCELED}
+use Rattle.machine.specs.declared.request.Told.{Told}
+use Rattle.machine.specs.declared.request.Told.TheVariants.{Count, Fail}
+use Rattle.machine.specs.declared.ledger.Event.{Event}
+use Rattle.machine.specs.declared.ledger.Event.TheVariants.{Poll, Drop, Turn, Exec}
+use Rattle.machine.specs.declared.ledger.Refusal.{Refusal}
+use Rattle.machine.specs.declared.ledger.Reply.{Reply}
+use Rattle.machine.specs.Lists.{passes}
+use Rattle.machine.specs.Request.{call_of}
+use Rattle.machine.specs.Attempt.{attempt}
+use Rattle.machine.specs.Ledger.{Ledger, Operation, Queued, Req, Item, Op}
+use Rattle.machine.specs.Refusal.{cause}
+use Rattle.machine.specs.Step.{step}
+use Rattle.machine.specs.Run.{after}
 
 -- The cancel of an operation is in a queue.
 abbrev pub has_cancel : ℕ → List Queued → Bool

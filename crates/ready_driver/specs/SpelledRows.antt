@@ -1,19 +1,19 @@
 -- Worked runs of a readiness driver over handles in memory: a capacity of the machine, the events, and their replies.
 use Rattle.std.specs.Prelude.{ℕ, ◌≡◌, false, List, [], ◌∷◌, Some, None}
 use Rattle.rent_buf.specs.declared.held.Held.TheVariants.{One}
-use Rattle.ring_core.specs.declared.world.HandleKind.TheVariants.{Stream}
-use Rattle.ring_core.specs.declared.request.TheConstants.{CANCELED}
-use Rattle.ring_core.specs.declared.request.Request.TheVariants.{Recv, Send}
-use Rattle.ring_core.specs.declared.request.Outcome.{Outcome}
-use Rattle.ring_core.specs.declared.ledger.Event.{Event}
-use Rattle.ring_core.specs.declared.ledger.Event.TheVariants.{Give, Feed, End, Look, Close, Submit, Poll, Drop, Cancel}
-use Rattle.ring_core.specs.declared.ledger.Event.TheVariants.{NewCanceller, NewHandle, CancelAll}
-use Rattle.ring_core.specs.declared.ledger.Refusal.TheVariants.{NoOp, NoHandle}
-use Rattle.ring_core.specs.declared.ledger.Reply.{Reply}
-use Rattle.ring_core.specs.declared.ledger.Reply.TheVariants.{Handle, Fed, Ended, Released, Output, Submitted, Pending, Handed, Dropped}
-use Rattle.ring_core.specs.declared.ledger.Reply.TheVariants.{Asked, CanceledAtOnce, Canceller, CancelHandle, Cancels, Refused}
-use Rattle.ring_core.specs.Ledger.{empty}
-use Rattle.ring_core.specs.Rows.{vector}
+use Rattle.machine.specs.declared.world.HandleKind.TheVariants.{Stream}
+use Rattle.machine.specs.declared.request.TheConstants.{CANCELED}
+use Rattle.machine.specs.declared.request.Request.TheVariants.{Recv, Send}
+use Rattle.machine.specs.declared.request.Outcome.{Outcome}
+use Rattle.machine.specs.declared.ledger.Event.{Event}
+use Rattle.machine.specs.declared.ledger.Event.TheVariants.{Give, Feed, End, Look, Close, Submit, Poll, Drop, Cancel}
+use Rattle.machine.specs.declared.ledger.Event.TheVariants.{NewCanceller, NewHandle, CancelAll}
+use Rattle.machine.specs.declared.ledger.Refusal.TheVariants.{NoOp, NoHandle}
+use Rattle.machine.specs.declared.ledger.Reply.{Reply}
+use Rattle.machine.specs.declared.ledger.Reply.TheVariants.{Handle, Fed, Ended, Released, Output, Submitted, Pending, Handed, Dropped}
+use Rattle.machine.specs.declared.ledger.Reply.TheVariants.{Asked, CanceledAtOnce, Canceller, CancelHandle, Cancels, Refused}
+use Rattle.machine.specs.Ledger.{empty}
+use Rattle.machine.specs.Rows.{vector}
 use Rattle.ready_driver.specs.Spelled.{spelled_replies}
 use Rattle.ready_driver.specs.Legacy.{idle}
 use Rattle.ready_driver.specs.LegacyStep.{legacy_replies}

@@ -2,8 +2,8 @@
 -- `Registry`, and by its polls.
 use Rattle.std.specs.Prelude.{ℕ, ◌≡◌, ◌+◌, ◌==◌, if◌then◌else◌, true, List, [], ◌∷◌, ◌++◌, length, bit_or}
 use Rattle.handle_core.specs.Table.{Table}
-use Rattle.ring_core.specs.declared.world.HandleState.{HandleState}
-use Rattle.ring_core.specs.Attempt.{is_readable_at}
+use Rattle.machine.specs.declared.world.HandleState.{HandleState}
+use Rattle.machine.specs.Attempt.{is_readable_at}
 use Rattle.ready_driver.specs.declared.non_block.Report.{Report}
 use Rattle.ready_driver.specs.Io.{IoView, IsShown}
 use Rattle.ready_driver.specs.Reports.{ShowsBits}

@@ -1,11 +1,11 @@
 //! Handles whose report is due, each once.
 ghost use Rattle.std.specs.Prelude.{◌≡◌, ◌≢◌, ◌+◌, ℕ, false, [], length, get_or, slice_get, OnOk, OnErr};
-ghost use Rattle.ring_core.specs.Lists.{has_number};
-ghost use Rattle.ring_core.specs.Request.{listed};
+ghost use Rattle.machine.specs.Lists.{has_number};
+ghost use Rattle.machine.specs.Request.{listed};
 ghost use Rattle.ready_driver.specs.Due.{with_due, with_each_due};
 
+use machine::Names;
 use rent_buf::OutOfMemory;
-use ring_core::Names;
 use std::alloc::Global;
 use std::marker::Model;
 

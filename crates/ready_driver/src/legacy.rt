@@ -4,11 +4,11 @@ ghost use Rattle.std.specs.Prelude.{IfSome, IfOk, IfErr, OnOk, OnErr, IsOk, leng
 ghost use Rattle.std.specs.Prelude.{◌≤◌, ◌+◌, option_to_list};
 ghost use Rattle.std.specs.Vec.{vec_len, vec_capacity};
 ghost use Rattle.std.specs.FinMap as map;
-ghost use Rattle.ring_core.specs.Effect.{made_by};
-ghost use Rattle.ring_core.specs.Lists.{has_number};
-ghost use Rattle.ring_core.specs.Request.{named, listed};
-ghost use Rattle.ring_core.specs.declared.ledger.Event.TheVariants.{Drop, Cancel};
-ghost use Rattle.ring_core.specs.declared.ledger.Reply.TheVariants.{Dropped, Asked};
+ghost use Rattle.machine.specs.Effect.{made_by};
+ghost use Rattle.machine.specs.Lists.{has_number};
+ghost use Rattle.machine.specs.Request.{named, listed};
+ghost use Rattle.machine.specs.declared.ledger.Event.TheVariants.{Drop, Cancel};
+ghost use Rattle.machine.specs.declared.ledger.Reply.TheVariants.{Dropped, Asked};
 ghost use Rattle.driver_core.specs.Answers.{IsUnder};
 ghost use Rattle.driver_core.specs.Groups.{is_under_canceled, joins_if, AreInSlots};
 ghost use Rattle.driver_core.specs.Holds.{named_in, without_ops, unheld_by};
@@ -40,9 +40,9 @@ use driver_core::{
     CancelHandle, Done, MOST_GIVEN, Members, Op, Operations, PollOp, SubmitError, SubmitFault,
     Submitted,
 };
+use machine::{INVALID, Names, Outcome, Request};
 use op_slots::slab::MAX_LIVE;
 use rent_buf::{IoBufMut, OutOfMemory, VecBuf};
-use ring_core::{INVALID, Names, Outcome, Request};
 use std::alloc::Global;
 use std::marker::Model;
 

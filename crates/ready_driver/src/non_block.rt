@@ -2,16 +2,16 @@
 ghost use Rattle.std.specs.Prelude.{◌≡◌, ◌++◌, ℕ, [], ◌∷◌, Bool, Some, None, IsTrue, OnOk, OnErr, length, slice_get};
 ghost use Rattle.rent_buf.specs.Buffer.{Buffer};
 ghost use Rattle.rent_buf.specs.Parts.{Parts};
-ghost use Rattle.ring_core.specs.declared.request.Request.{Request};
-ghost use Rattle.ring_core.specs.Attempt.{is_file_at};
+ghost use Rattle.machine.specs.declared.request.Request.{Request};
+ghost use Rattle.machine.specs.Attempt.{is_file_at};
 ghost use Rattle.driver_core.specs.declared.operations.calls.CallAnswer.{CallAnswer};
 ghost use Rattle.ready_driver.specs.Io.{IoView, CallsFor, RegistersFor, IsClosed, WaitsFor};
 ghost use Rattle.ready_driver.specs.Reports.{reports_of};
 
 use crate::ready::Ready;
 use driver_core::Calls;
+use machine::Outcome;
 use rent_buf::OutOfMemory;
-use ring_core::Outcome;
 use std::alloc::Global;
 use std::marker::Model;
 use thiserror::Error;

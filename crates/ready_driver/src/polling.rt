@@ -6,7 +6,7 @@ ghost use Rattle.driver_core.specs.Holds.{made_in, named_in};
 ghost use Rattle.driver_core.specs.Operations.{Submits};
 ghost use Rattle.driver_core.specs.Requests.{KeepsRequests};
 ghost use Rattle.driver_core.specs.Slot.{flies_in, number_at};
-ghost use Rattle.ring_core.specs.Request.{plain_request};
+ghost use Rattle.machine.specs.Request.{plain_request};
 ghost use Rattle.ready_driver.specs.Calling.{CallsOnce};
 ghost use Rattle.ready_driver.specs.Errors.{ReturnsFor};
 ghost use Rattle.ready_driver.specs.Legacy.{Legacy};
@@ -18,10 +18,10 @@ ghost use Rattle.ready_driver.specs.Polling.{OpsStand, PartsStand, PollsFor, Blo
 
 use crate::non_block::NonBlock;
 use driver_core::{CallAnswer, MOST_GIVEN, Op, Operations, PollOp};
+use machine::{CANCELED, Completion, Outcome, Request};
 use op_slots::AfterDrop;
 use op_slots::slab::MAX_LIVE;
 use rent_buf::{IoBufMut, OutOfMemory, VecBuf};
-use ring_core::{CANCELED, Completion, Outcome, Request};
 
 /// Gives a request a slot and the next number, in memory that was reserved before, and answers its token. No call is made before its poll.
 /// (monoio: `submit_with_data` of the legacy driver)

@@ -2,7 +2,7 @@
 ghost use Rattle.std.specs.Prelude.{◌≡◌, ◌<◌, true, false, not, [], ◌∷◌, IsOk, IfOk, IfErr, OnOk, OnErr};
 ghost use Rattle.std.specs.FinMap as map;
 ghost use Rattle.handle_core.specs.Table.{IsHeld, holders_at, with_holders, with_user, with_operation};
-ghost use Rattle.ring_core.specs.Request.{listed};
+ghost use Rattle.machine.specs.Request.{listed};
 ghost use Rattle.driver_core.specs.Holds.{CanJoin, with_ops};
 ghost use Rattle.ready_driver.specs.Records.{io_at, is_registered};
 ghost use Rattle.ready_driver.specs.Registry.{is_known, is_users, holds_each, is_old, AreRecorded, HasMadeRoom, IsSameButRoom, GivesUser};
@@ -18,8 +18,8 @@ use crate::non_block::{NonBlock, NonBlockError};
 use crate::ready::Ready;
 use crate::records::Records;
 use handle_core::{MAX_HOLDS, SharedFd};
+use machine::{MOST_HANDLES, Names};
 use rent_buf::OutOfMemory;
-use ring_core::{MOST_HANDLES, Names};
 use std::alloc::Global;
 use std::marker::Model;
 

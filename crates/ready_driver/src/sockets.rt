@@ -2,16 +2,16 @@
 ghost use Rattle.std.specs.Prelude.{◌≡◌, ℕ};
 ghost use Rattle.rent_buf.specs.Buffer.{Buffer};
 ghost use Rattle.rent_buf.specs.Parts.{Parts};
-ghost use Rattle.ring_core.specs.declared.request.Request.{Request};
-ghost use Rattle.ring_core.specs.declared.request.Outcome.TheVariants.{Made};
-ghost use Rattle.ring_core.specs.declared.world.HandleKind.TheVariants.{Listener, Stream};
+ghost use Rattle.machine.specs.declared.request.Request.{Request};
+ghost use Rattle.machine.specs.declared.request.Outcome.TheVariants.{Made};
+ghost use Rattle.machine.specs.declared.world.HandleKind.TheVariants.{Listener, Stream};
 ghost use Rattle.driver_core.specs.declared.operations.calls.CallAnswer.TheVariants.{Done};
 ghost use Rattle.ready_driver.specs.Sockets.{GivesFor};
 ghost use Rattle.ready_driver.specs.SocketLaws.{memory-numbered};
 
 use crate::mem_io::MemIo;
 use crate::non_block::{NonBlock, NonBlockError};
-use ring_core::HandleKind;
+use machine::HandleKind;
 
 /// An object that listens and dials. It numbers its handles from 0 in the order in which they are made, by whatever call: no number is
 /// given twice. (not in monoio, whose handles are the system's)

@@ -18,9 +18,9 @@ use crate::polling;
 use crate::ready::Direction;
 use crate::records::Records;
 use driver_core::{Op, Operations, PollOp, Slot};
+use machine::Request;
 use op_slots::Lifecycle;
 use rent_buf::{IoBufMut, OutOfMemory};
-use ring_core::Request;
 
 /// The handle that a request waits for, and the direction; None for one that waits for none. (monoio: `OpAble::legacy_interest`)
 pub fn direction_of<B, V>(request: &Request<B, V>) -> Option<(u64, Direction)>

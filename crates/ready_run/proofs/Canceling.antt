@@ -5,11 +5,11 @@ use Rattle.std.proofs.lemmas.List.{length-map, map-append}
 use Rattle.std.proofs.lemmas.Option.{slice_get_within, slice_get_cases}
 use Rattle.handle_core.specs.Table.{holders_at}
 use Rattle.rent_buf.specs.Buf.{built}
-use Rattle.ring_core.specs.Lists.{amended}
-use Rattle.ring_core.specs.Step.{group_of}
-use Rattle.ring_core.specs.declared.ledger.Event.TheVariants.{NewCanceller, NewHandle, CancelAll}
-use Rattle.ring_core.specs.declared.ledger.Reply.TheVariants.{Canceller, CancelHandle, Cancels}
-use Rattle.ring_core.proofs.Amended.{length-amended, changed-cases, joined-cases}
+use Rattle.machine.specs.Lists.{amended}
+use Rattle.machine.specs.Step.{group_of}
+use Rattle.machine.specs.declared.ledger.Event.TheVariants.{NewCanceller, NewHandle, CancelAll}
+use Rattle.machine.specs.declared.ledger.Reply.TheVariants.{Canceller, CancelHandle, Cancels}
+use Rattle.machine.proofs.Amended.{length-amended, changed-cases, joined-cases}
 use Rattle.driver_core.specs.Tokens.{token_at, by_number, cancellers_in, handles_in}
 use Rattle.ready_driver.specs.Legacy.{Legacy, seen}
 use Rattle.ready_driver.specs.LegacyStands.{LegacyStands, CancellerFor, HandleFor, CancelsFor}

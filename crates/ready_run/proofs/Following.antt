@@ -3,10 +3,10 @@ use Rattle.std.proofs.Common.{◌≡◌, ◌∙◌, ℕ, true, List, [], ◌∷�
 use Rattle.std.specs.Prelude.{Result, Ok, Err}
 use Rattle.rent_buf.specs.Buf.{built}
 use Rattle.rent_buf.specs.declared.fault.OutOfMemory.{OutOfMemory}
-use Rattle.ring_core.specs.declared.ledger.Event.{Event}
-use Rattle.ring_core.specs.declared.ledger.Reply.{Reply}
-use Rattle.ring_core.specs.Ledger.{Ledger, empty}
-use Rattle.ring_core.specs.Refusal.{cause}
+use Rattle.machine.specs.declared.ledger.Event.{Event}
+use Rattle.machine.specs.declared.ledger.Reply.{Reply}
+use Rattle.machine.specs.Ledger.{Ledger, empty}
+use Rattle.machine.specs.Refusal.{cause}
 use Rattle.ready_driver.specs.Legacy.{Legacy, idle}
 use Rattle.ready_driver.specs.LegacyStep.{legacy_step, legacy_after, legacy_replies}
 use Rattle.ready_driver.specs.LegacyTurns.{ShowsLedger}

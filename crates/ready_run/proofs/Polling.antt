@@ -4,9 +4,9 @@ use Rattle.rent_buf.specs.Buf.{built}
 use Rattle.rent_buf.specs.Parts.{Parts}
 use Rattle.rent_buf.specs.declared.plain.Buf.{Buf}
 use Rattle.handle_core.specs.Table.{Table}
-use Rattle.ring_core.specs.Effect.{made_by}
-use Rattle.ring_core.specs.Request.{named}
-use Rattle.ring_core.specs.declared.request.Request.{Request}
+use Rattle.machine.specs.Effect.{made_by}
+use Rattle.machine.specs.Request.{named}
+use Rattle.machine.specs.declared.request.Request.{Request}
 use Rattle.driver_core.specs.declared.op.Done.{Done}
 use Rattle.driver_core.specs.declared.op.Op.{Op}
 use Rattle.driver_core.specs.Holds.{with_ops, without_ops}

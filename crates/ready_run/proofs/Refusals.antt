@@ -6,12 +6,12 @@ use Rattle.std.specs.Prelude.{is_some, nat_le}
 use Rattle.handle_core.specs.Table.{Table}
 use Rattle.op_slots.specs.declared.lifecycle.Lifecycle.{Lifecycle}
 use Rattle.op_slots.specs.declared.lifecycle.Lifecycle.TheVariants.{Submitted, Waiting, Ignored, Completed}
-use Rattle.ring_core.specs.declared.request.Outcome.{Outcome}
-use Rattle.ring_core.specs.Lists.{passes}
-use Rattle.ring_core.specs.Refusal.{refused_if}
-use Rattle.ring_core.specs.World.{refuses_feed, refuses_message, refuses_end}
-use Rattle.ring_core.specs.declared.ledger.Event.TheVariants.{Feed, FeedMessage, End, Look, Close, Poll, Drop, Cancel, NewHandle, CancelAll}
-use Rattle.ring_core.specs.declared.ledger.Refusal.TheVariants.{NoOp, NoCanceller, NoHandle, BadHandleEvent}
+use Rattle.machine.specs.declared.request.Outcome.{Outcome}
+use Rattle.machine.specs.Lists.{passes}
+use Rattle.machine.specs.Refusal.{refused_if}
+use Rattle.machine.specs.World.{refuses_feed, refuses_message, refuses_end}
+use Rattle.machine.specs.declared.ledger.Event.TheVariants.{Feed, FeedMessage, End, Look, Close, Poll, Drop, Cancel, NewHandle, CancelAll}
+use Rattle.machine.specs.declared.ledger.Refusal.TheVariants.{NoOp, NoCanceller, NoHandle, BadHandleEvent}
 use Rattle.driver_core.specs.declared.op.Op.{Op}
 use Rattle.driver_core.specs.Op.{number_of}
 use Rattle.driver_core.specs.Slot.{is_owned_life}

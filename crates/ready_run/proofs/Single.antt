@@ -9,8 +9,8 @@ use Rattle.handle_core.specs.Table.{Table, holders_at, by_user, without_user, no
 use Rattle.handle_core.specs.declared.table.Holders.{Holders}
 use Rattle.rent_buf.specs.Buf.{built}
 use Rattle.rent_buf.specs.declared.plain.Buf.{Buf}
-use Rattle.ring_core.specs.Lists.{passes}
-use Rattle.ring_core.proofs.Numbers.{same-or-not}
+use Rattle.machine.specs.Lists.{passes}
+use Rattle.machine.proofs.Numbers.{same-or-not}
 use Rattle.driver_core.specs.Holds.{with_ops, without_ops, settled}
 use Rattle.driver_core.specs.Members.{Membership, key_at}
 use Rattle.driver_core.proofs.Holds.{user-joined, user-left, settled-same, settled-other}

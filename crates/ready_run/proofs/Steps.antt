@@ -6,20 +6,20 @@ use Rattle.rent_buf.specs.Buf.{built}
 use Rattle.rent_buf.specs.Parts.{Parts}
 use Rattle.rent_buf.specs.declared.fault.OutOfMemory.{OutOfMemory as NoMemory}
 use Rattle.rent_buf.specs.declared.plain.Buf.{Buf}
-use Rattle.ring_core.specs.Lists.{amended}
-use Rattle.ring_core.specs.Request.{plain_request}
-use Rattle.ring_core.specs.declared.ledger.Event.{Event}
-use Rattle.ring_core.specs.declared.ledger.Event.TheVariants.{End, Look, Submit}
-use Rattle.ring_core.specs.declared.ledger.Refusal.{Refusal}
-use Rattle.ring_core.specs.declared.ledger.Refusal.TheVariants.{BadHandleEvent}
-use Rattle.ring_core.specs.declared.ledger.Reply.{Reply}
-use Rattle.ring_core.specs.declared.ledger.Reply.TheVariants.{Refused}
-use Rattle.ring_core.specs.declared.request.Request.{Request}
-use Rattle.ring_core.specs.declared.world.Look.{Look as Shown}
-use Rattle.ring_core.specs.declared.world.WorldError.{WorldError}
-use Rattle.ring_core.specs.Step.{look_reply}
-use Rattle.ring_core.specs.World.{WorldEnds}
-use Rattle.ring_core.proofs.Amended.{length-amended}
+use Rattle.machine.specs.Lists.{amended}
+use Rattle.machine.specs.Request.{plain_request}
+use Rattle.machine.specs.declared.ledger.Event.{Event}
+use Rattle.machine.specs.declared.ledger.Event.TheVariants.{End, Look, Submit}
+use Rattle.machine.specs.declared.ledger.Refusal.{Refusal}
+use Rattle.machine.specs.declared.ledger.Refusal.TheVariants.{BadHandleEvent}
+use Rattle.machine.specs.declared.ledger.Reply.{Reply}
+use Rattle.machine.specs.declared.ledger.Reply.TheVariants.{Refused}
+use Rattle.machine.specs.declared.request.Request.{Request}
+use Rattle.machine.specs.declared.world.Look.{Look as Shown}
+use Rattle.machine.specs.declared.world.WorldError.{WorldError}
+use Rattle.machine.specs.Step.{look_reply}
+use Rattle.machine.specs.World.{WorldEnds}
+use Rattle.machine.proofs.Amended.{length-amended}
 use Rattle.driver_core.specs.declared.op.Op.{Op}
 use Rattle.driver_core.specs.declared.op.SubmitError.{SubmitError}
 use Rattle.driver_core.specs.Answers.{IsUnder}

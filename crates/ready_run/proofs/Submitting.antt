@@ -5,15 +5,15 @@ use Rattle.std.proofs.Math.Bool.{and-false}
 use Rattle.std.proofs.lemmas.Option.{slice_get_within}
 use Rattle.rent_buf.specs.Buffer.{Buffer}
 use Rattle.rent_buf.specs.Parts.{Parts}
-use Rattle.ring_core.specs.Ledger.{Ledger, is_marked, is_under_marked}
-use Rattle.ring_core.specs.Lists.{passes}
-use Rattle.ring_core.specs.Refusal.{refused_if, has_no_canceller}
-use Rattle.ring_core.specs.Request.{named}
-use Rattle.ring_core.specs.declared.ledger.TheConstants.{MOST_LIVE}
-use Rattle.ring_core.specs.declared.ledger.Event.{Event}
-use Rattle.ring_core.specs.declared.ledger.Event.TheVariants.{Submit}
-use Rattle.ring_core.specs.declared.ledger.Refusal.TheVariants.{NoCanceller, NoHandle, Full}
-use Rattle.ring_core.specs.declared.request.Request.{Request}
+use Rattle.machine.specs.Ledger.{Ledger, is_marked, is_under_marked}
+use Rattle.machine.specs.Lists.{passes}
+use Rattle.machine.specs.Refusal.{refused_if, has_no_canceller}
+use Rattle.machine.specs.Request.{named}
+use Rattle.machine.specs.declared.ledger.TheConstants.{MOST_LIVE}
+use Rattle.machine.specs.declared.ledger.Event.{Event}
+use Rattle.machine.specs.declared.ledger.Event.TheVariants.{Submit}
+use Rattle.machine.specs.declared.ledger.Refusal.TheVariants.{NoCanceller, NoHandle, Full}
+use Rattle.machine.specs.declared.request.Request.{Request}
 use Rattle.driver_core.specs.Answers.{IsUnder}
 use Rattle.ready_driver.specs.Legacy.{Legacy, seen, live_at}
 use Rattle.ready_driver.specs.LegacyState.{holds_all, live_slots}

@@ -3,23 +3,23 @@ use Rattle.std.proofs.Common.{◌≡◌, ◌∙◌, ℕ, Bool, true, false, not,
 use Rattle.std.specs.Prelude.{is_some}
 use Rattle.rent_buf.specs.Buffer.{Buffer}
 use Rattle.rent_buf.specs.Parts.{Parts}
-use Rattle.ring_core.specs.Attempt.{attempt}
-use Rattle.ring_core.specs.Ledger.{Ledger, is_under_marked, group_under}
-use Rattle.ring_core.specs.Refusal.{cause, refused_if}
-use Rattle.ring_core.specs.Request.{call_of}
-use Rattle.ring_core.specs.Step.{look_reply}
-use Rattle.ring_core.specs.World.{look_at}
-use Rattle.ring_core.specs.declared.ledger.Event.{Event}
-use Rattle.ring_core.specs.declared.ledger.Event.TheVariants.{Give, Feed, FeedMessage, End, Look, Close, Submit, Poll, Drop, Cancel}
-use Rattle.ring_core.specs.declared.ledger.Event.TheVariants.{NewCanceller, NewHandle, CancelAll, Turn, Exec}
-use Rattle.ring_core.specs.declared.ledger.Refusal.{Refusal}
-use Rattle.ring_core.specs.declared.ledger.Refusal.TheVariants.{NoOp}
-use Rattle.ring_core.specs.declared.ledger.Reply.TheVariants.{Refused}
-use Rattle.ring_core.specs.declared.request.Request.{Request}
-use Rattle.ring_core.specs.declared.request.Told.{Told}
-use Rattle.ring_core.specs.declared.world.Look.{Look as Shown}
-use Rattle.ring_core.specs.declared.world.Look.TheVariants.{Bytes, Messages}
-use Rattle.ring_core.proofs.Stepping.{step-refused}
+use Rattle.machine.specs.Attempt.{attempt}
+use Rattle.machine.specs.Ledger.{Ledger, is_under_marked, group_under}
+use Rattle.machine.specs.Refusal.{cause, refused_if}
+use Rattle.machine.specs.Request.{call_of}
+use Rattle.machine.specs.Step.{look_reply}
+use Rattle.machine.specs.World.{look_at}
+use Rattle.machine.specs.declared.ledger.Event.{Event}
+use Rattle.machine.specs.declared.ledger.Event.TheVariants.{Give, Feed, FeedMessage, End, Look, Close, Submit, Poll, Drop, Cancel}
+use Rattle.machine.specs.declared.ledger.Event.TheVariants.{NewCanceller, NewHandle, CancelAll, Turn, Exec}
+use Rattle.machine.specs.declared.ledger.Refusal.{Refusal}
+use Rattle.machine.specs.declared.ledger.Refusal.TheVariants.{NoOp}
+use Rattle.machine.specs.declared.ledger.Reply.TheVariants.{Refused}
+use Rattle.machine.specs.declared.request.Request.{Request}
+use Rattle.machine.specs.declared.request.Told.{Told}
+use Rattle.machine.specs.declared.world.Look.{Look as Shown}
+use Rattle.machine.specs.declared.world.Look.TheVariants.{Bytes, Messages}
+use Rattle.machine.proofs.Stepping.{step-refused}
 use Rattle.ready_driver.specs.Legacy.{LegacyOp, Legacy, seen, slot_at}
 use Rattle.ready_driver.specs.LegacyStep.{poll_op, poll_slot, submit_at, legacy_row, legacy_cause, legacy_answered, legacy_step}
 use Rattle.ready_driver.specs.Spelled.{open_spelling, with_closes, spelled, spelled_reply}

@@ -4,11 +4,11 @@ use Rattle.rent_buf.specs.Buf.{built}
 use Rattle.rent_buf.specs.declared.fault.OutOfMemory.{OutOfMemory}
 use Rattle.rent_buf.specs.declared.plain.Buf.{Buf}
 use Rattle.handle_core.specs.Table.{Table, holders_at}
-use Rattle.ring_core.specs.declared.ledger.Event.{Event}
-use Rattle.ring_core.specs.declared.ledger.Event.TheVariants.{End, Close, Drop}
-use Rattle.ring_core.specs.declared.ledger.Reply.{Reply}
-use Rattle.ring_core.specs.Ledger.{Ledger, empty}
-use Rattle.ring_core.specs.Refusal.{cause}
+use Rattle.machine.specs.declared.ledger.Event.{Event}
+use Rattle.machine.specs.declared.ledger.Event.TheVariants.{End, Close, Drop}
+use Rattle.machine.specs.declared.ledger.Reply.{Reply}
+use Rattle.machine.specs.Ledger.{Ledger, empty}
+use Rattle.machine.specs.Refusal.{cause}
 use Rattle.driver_core.specs.declared.tokens.Tokens.{Tokens}
 use Rattle.driver_core.specs.Tokens.{by_number, cancellers_in, handles_in, AreHeld}
 use Rattle.ready_driver.specs.Legacy.{Legacy, idle, slot_at}

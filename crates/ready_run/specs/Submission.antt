@@ -1,7 +1,7 @@
 -- Under which group a readiness session submits a request. Cited by `ReadySession`.
 use Rattle.std.specs.Prelude.{ℕ, ◌≡◌, ◌≤◌, length, Option, Some, Result, Ok, Err}
-use Rattle.ring_core.specs.declared.ledger.Refusal.{Refusal}
-use Rattle.ring_core.specs.declared.ledger.Refusal.TheVariants.{NoCanceller}
+use Rattle.machine.specs.declared.ledger.Refusal.{Refusal}
+use Rattle.machine.specs.declared.ledger.Refusal.TheVariants.{NoCanceller}
 use Rattle.driver_core.specs.Answers.{IsUnder}
 use Rattle.ready_driver.specs.Legacy.{Legacy, seen}
 

@@ -1,10 +1,10 @@
 //! A session: a readiness driver over handles in memory, and what it keeps by number: tokens of operations, cancellers and cancel handles.
 ghost use Rattle.std.specs.Prelude.{ℕ, ◌≡◌, ◌<◌, true, length, IfOk, OnOk, IsOk};
 ghost use Rattle.rent_buf.specs.Buf.{built};
-ghost use Rattle.ring_core.specs.Request.{held_of, plain_request};
-ghost use Rattle.ring_core.specs.Ledger.{Ledger, empty};
-ghost use Rattle.ring_core.specs.Step as machine;
-ghost use Rattle.ring_core.specs.declared.ledger.Event.TheVariants.{Give, Feed, FeedMessage, End, Poll, Drop, Cancel};
+ghost use Rattle.machine.specs.Request.{held_of, plain_request};
+ghost use Rattle.machine.specs.Ledger.{Ledger, empty};
+ghost use Rattle.machine.specs.Step as machine;
+ghost use Rattle.machine.specs.declared.ledger.Event.TheVariants.{Give, Feed, FeedMessage, End, Poll, Drop, Cancel};
 ghost use Rattle.ready_driver.specs.Legacy.{Legacy};
 ghost use Rattle.ready_driver.specs.LegacyTurns.{ShowsLedger};
 ghost use Rattle.ready_driver.specs.MemIo.{memory_view};
@@ -16,11 +16,11 @@ ghost use Rattle.ready_run.specs.ReadySession.{TakesNoMemory, is_live};
 ghost use Rattle.ready_run.specs.Runs.{OneReplyEach, PendingWhenBlocked, CanceledWhenAsked};
 
 use driver_core::{Driver as _, MOST_GIVEN, PollOp, RunError, Tokens};
-use ready_driver::{LegacyDriver, MemIo};
-use rent_buf::{Buf, Held, HeldBuf, OutOfMemory, VecBuf};
-use ring_core::{
+use machine::{
     Event, HandleKind, Look, MOST_HANDLES, Refusal, Reply, Request, SharedFd, WorldError,
 };
+use ready_driver::{LegacyDriver, MemIo};
+use rent_buf::{Buf, Held, HeldBuf, OutOfMemory, VecBuf};
 use std::alloc::Global;
 
 mod groups;

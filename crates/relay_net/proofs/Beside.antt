@@ -5,9 +5,9 @@ use Rattle.std.specs.Prelude.{◌⊎◌}
 use Rattle.rent_buf.specs.Buffer.{Buffer}
 use Rattle.rent_buf.specs.Parts.{Parts}
 use Rattle.rent_buf.specs.declared.plain.Buf.{Buf}
-use Rattle.ring_core.specs.World.{input_at}
-use Rattle.ring_core.specs.declared.request.Request.{Request}
-use Rattle.ring_core.specs.declared.world.HandleState.{HandleState}
+use Rattle.machine.specs.World.{input_at}
+use Rattle.machine.specs.declared.request.Request.{Request}
+use Rattle.machine.specs.declared.world.HandleState.{HandleState}
 use Rattle.driver_core.specs.Ops.{Ops}
 use Rattle.net_stream.specs.Told.{output_at}
 use Rattle.relay_net.specs.Connection.{FitsBack, FitsConnection, IsOutside, KeepsLines}
@@ -20,10 +20,11 @@ use Rattle.relay_net.specs.declared.flow.Flow.{Flow}
 use Rattle.relay_net.proofs.Connections.{receive_else, send_else, stage_kept}
 
 -- A receive or a send at a handle that is neither of two is none of either direction between them.
-receive_outside : (x near far : ℕ) → x ≢ near → x ≢ far → (request : Request Buffer Parts) → IsReceive x request
+receive_outside : (room x near far : ℕ) → x ≢ near → x ≢ far → (request : Request Buffer Parts) → IsReceive room x request
     → IsOutside near far request
-receive_outside x near far a b request is = (receive_else x near far a request is, receive_else x far near b request is)
+receive_outside room x near far a b request is = (receive_else room x near far a request is, receive_else room x far near b request is)
 
+-- So is a send.
 send_outside : (x near far : ℕ) → x ≢ near → x ≢ far → (count : ℕ) (request : Request Buffer Parts) → IsSend x count request
     → IsOutside near far request
 send_outside x near far a b count request is = (send_else x near far b count request is, send_else x far near a count request is)
@@ -38,21 +39,22 @@ pub record IsKept (old new : Ops Buf) (conn : Connection) : Type 0 where
   pub forth : held_forth new conn ≡ held_forth old conn
   pub back : held_back new conn ≡ held_back old conn
 
+-- A connection is kept so where the requests that it waits for are among those that stay.
 pub connection_kept : (old new : Ops Buf) (Q : Request Buffer Parts → Type 0) (conn : Connection) → KeepsOps Q old new
-    → ((h : ℕ) → (h ≡ near_of conn) ⊎ (h ≡ far_of conn) → (request : Request Buffer Parts) → IsReceive h request → Q request)
+    → ((h : ℕ) → (h ≡ near_of conn) ⊎ (h ≡ far_of conn) → (request : Request Buffer Parts) → IsReceive conn.room h request → Q request)
     → ((h : ℕ) → (h ≡ near_of conn) ⊎ (h ≡ far_of conn) → (count : ℕ) (request : Request Buffer Parts) → IsSend h count request
     → Q request) → FitsConnection old conn → IsKept old new conn
 connection_kept old new Q conn keeps receives sends fits =
-    let forth = stage_kept old new Q (near_of conn) (far_of conn) conn.forth.stage keeps (receives (near_of conn) (inl refl))
+    let forth = stage_kept conn.room old new Q (near_of conn) (far_of conn) conn.forth.stage keeps (receives (near_of conn) (inl refl))
     (sends (far_of conn) (inr refl)) fits.0 in
     let back = by-back conn.back fits.1 in
     record { fits = (forth.0, back.0); forth = forth.1; back = back.1 }
   where
-    by-back : (back : Option Flow) → FitsBack old (near_of conn) (far_of conn) back
-        → FitsBack new (near_of conn) (far_of conn) back × (held_by new back ≡ held_by old back)
+    by-back : (back : Option Flow) → FitsBack conn.room old (near_of conn) (far_of conn) back
+        → FitsBack conn.room new (near_of conn) (far_of conn) back × (held_by new back ≡ held_by old back)
     by-back None fits = (fits, refl)
     by-back (Some flow) fits =
-        let kept = stage_kept old new Q (far_of conn) (near_of conn) flow.stage keeps (receives (far_of conn) (inr refl))
+        let kept = stage_kept conn.room old new Q (far_of conn) (near_of conn) flow.stage keeps (receives (far_of conn) (inr refl))
         (sends (near_of conn) (inl refl)) fits.3 in
         ((fits.0, fits.1, fits.2, kept.0), kept.1)
 
@@ -61,7 +63,7 @@ pub outside_kept : (old new : Ops Buf) (near far : ℕ) (conn : Connection) → 
     → IsApartFrom conn near far → FitsConnection old conn → IsKept old new conn
 outside_kept old new near far conn keeps apart fits =
     connection_kept old new (IsOutside near far) conn keeps
-    (λ h own. receive_outside h near far (near-apart h own) (far-apart h own))
+    (λ h own. receive_outside conn.room h near far (near-apart h own) (far-apart h own))
     (λ h own. send_outside h near far (near-apart h own) (far-apart h own)) fits
   where
     near-apart : (h : ℕ) → (h ≡ near_of conn) ⊎ (h ≡ far_of conn) → h ≢ near
@@ -103,6 +105,7 @@ pub beside_same : (conn one other : Connection) → near_of other ≡ near_of on
 beside_same conn one other near far apart =
     subst (λ h. IsApartFrom conn h (far_of other)) (sym near) (subst (λ h. IsApartFrom conn (near_of one) h) (sym far) apart)
 
+-- Two connections are beside each other in either order.
 pub beside_swap : (one other : Connection) → AreBeside one other → AreBeside other one
 beside_swap one other apart = record {
   near_near = λ same. apart.near_near (sym same);

@@ -8,9 +8,9 @@ use Rattle.rent_buf.specs.Buffer.{Buffer}
 use Rattle.rent_buf.specs.Parts.{Parts}
 use Rattle.rent_buf.specs.declared.plain.Buf.{Buf}
 use Rattle.handle_core.specs.Table.{Table, by_user, holders_at, nobody, without_user}
-use Rattle.ring_core.specs.declared.request.Request.{Request}
-use Rattle.ring_core.specs.Request.{named, plain_request}
-use Rattle.ring_core.proofs.Numbers.{same-or-not}
+use Rattle.machine.specs.declared.request.Request.{Request}
+use Rattle.machine.specs.Request.{named, plain_request}
+use Rattle.machine.proofs.Numbers.{same-or-not}
 use Rattle.driver_core.specs.Holds.{settled, with_ops, without_ops}
 use Rattle.driver_core.specs.Op.{AddsToken, Holds, number_of}
 use Rattle.driver_core.specs.Operations.{new_slot}
@@ -55,6 +55,7 @@ users_then old mid new first second h held = second h (first h held)
 pub joined_users : (table : Table) (handles : List ℕ) → KeepsUsers table (with_ops table handles)
 joined_users table handles h held = ap (nat_lt 0) (user-joined table handles h) ∙ held
 
+-- So does an operation that lets handles go.
 pub left_users : (table : Table) (handles : List ℕ) → KeepsUsers table (without_ops table handles)
 left_users table handles h held = ap (nat_lt 0) (user-left table handles h) ∙ held
 

@@ -4,7 +4,7 @@ use Rattle.std.specs.Prelude.{◌⊎◌, slice_get, slice_set}
 use Rattle.std.specs.List.{remove}
 use Rattle.rent_buf.specs.declared.plain.Buf.{Buf}
 use Rattle.handle_core.specs.Table.{Table}
-use Rattle.ring_core.specs.declared.world.HandleState.{HandleState}
+use Rattle.machine.specs.declared.world.HandleState.{HandleState}
 use Rattle.driver_core.specs.Ops.{Ops}
 use Rattle.ready_driver.specs.Io.{IoView}
 use Rattle.ready_driver.specs.LegacyState.{LegacyState, ops_in}
@@ -35,8 +35,8 @@ module _ {I : Type 0} (view : I → IoView) (tells : Bool) where
   }
 
   -- A round of a connection doesn't close it.
-  pub served_going : (old new : LegacyState I Buf) (ops : Ops Buf) (table : Table) (listener : ℕ) (all : List Connection) (k : ℕ)
-      (conn now : Connection) (answer : Served) → IsServed ops table listener conn → slice_get all k ≡ Some conn
+  pub served_going : {room : ℕ} (old new : LegacyState I Buf) (ops : Ops Buf) (table : Table) (listener : ℕ) (all : List Connection) (k : ℕ)
+      (conn now : Connection) (answer : Served) → IsServed room ops table listener conn → slice_get all k ≡ Some conn
       → Serves view tells old new conn now answer → IsOverIf (ops_in new) now answer → IsTrue tells → AreGoing view old listener all
       → IsGoing answer × AreGoing view new listener (slice_set all k now)
   served_going old new ops table listener all k conn now answer own there serves over told going = (by-answer answer over, still)

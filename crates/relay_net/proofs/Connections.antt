@@ -7,12 +7,12 @@ use Rattle.rent_buf.specs.Buffer.{Buffer}
 use Rattle.rent_buf.specs.Parts.{Parts}
 use Rattle.rent_buf.specs.declared.plain.Buf.{Buf}
 use Rattle.handle_core.specs.Table.{Table, holders_at, without_user}
-use Rattle.ring_core.specs.Effect.{with_sent}
-use Rattle.ring_core.specs.World.{input_at}
-use Rattle.ring_core.specs.declared.request.Request.{Request}
-use Rattle.ring_core.specs.declared.world.HandleState.{HandleState}
-use Rattle.ring_core.proofs.Amended.{get-amended-other}
-use Rattle.ring_core.proofs.Numbers.{same-or-not}
+use Rattle.machine.specs.Effect.{with_sent}
+use Rattle.machine.specs.World.{input_at}
+use Rattle.machine.specs.declared.request.Request.{Request}
+use Rattle.machine.specs.declared.world.HandleState.{HandleState}
+use Rattle.machine.proofs.Amended.{get-amended-other}
+use Rattle.machine.proofs.Numbers.{same-or-not}
 use Rattle.driver_core.specs.Holds.{is_nobody, settled}
 use Rattle.driver_core.specs.Ops.{Ops}
 use Rattle.driver_core.specs.Slot.{serial_of}
@@ -53,23 +53,24 @@ asked_as None P Q gives is = is
 asked_as (Some request) P Q gives is = gives request is
 
 -- A receive from another handle is none of a direction, and so is a send to another.
-pub receive_else : (x from to : ℕ) → x ≢ from → (request : Request Buffer Parts) → IsReceive x request → IsElse from to request
-receive_else x from to apart request is = subst (IsElse from to) (sym is) apart
+pub receive_else : (room x from to : ℕ) → x ≢ from → (request : Request Buffer Parts) → IsReceive room x request → IsElse from to request
+receive_else room x from to apart request is = subst (IsElse from to) (sym is.request_is) apart
 
+-- Nor is a send to a handle that is neither.
 pub send_else : (y from to : ℕ) → y ≢ to → (count : ℕ) (request : Request Buffer Parts) → IsSend y count request → IsElse from to request
 send_else y from to apart count request is = subst (IsElse from to) (sym is.request_is) apart
 
 -- A direction whose operation is kept waits for what it waited for, and holds what it held.
-pub stage_kept : (old new : Ops Buf) (Q : Request Buffer Parts → Type 0) (x y : ℕ) (s : Stage) → KeepsOps Q old new
-    → ((request : Request Buffer Parts) → IsReceive x request → Q request)
-    → ((count : ℕ) (request : Request Buffer Parts) → IsSend y count request → Q request) → FitsStage old x y s
-    → FitsStage new x y s × (held_in new s ≡ held_in old s)
-stage_kept old new Q x y (stage.Idle spare) keeps receives sends fits = (tt, refl)
-stage_kept old new Q x y (stage.Receiving op) keeps receives sends fits =
-    let same = keeps op fits.holds (asked_as (asked_at old op) (IsReceive x) Q receives fits.asks) in
-    (pending_kept old new op (IsReceive x) same fits, refl)
-stage_kept old new Q x y (stage.Held buf) keeps receives sends fits = (fits, refl)
-stage_kept old new Q x y (stage.Sending op count) keeps receives sends fits =
+pub stage_kept : (room : ℕ) (old new : Ops Buf) (Q : Request Buffer Parts → Type 0) (x y : ℕ) (s : Stage) → KeepsOps Q old new
+    → ((request : Request Buffer Parts) → IsReceive room x request → Q request)
+    → ((count : ℕ) (request : Request Buffer Parts) → IsSend y count request → Q request) → FitsStage room old x y s
+    → FitsStage room new x y s × (held_in new s ≡ held_in old s)
+stage_kept room old new Q x y (stage.Idle spare) keeps receives sends fits = (tt, refl)
+stage_kept room old new Q x y (stage.Receiving op) keeps receives sends fits =
+    let same = keeps op fits.holds (asked_as (asked_at old op) (IsReceive room x) Q receives fits.asks) in
+    (pending_kept old new op (IsReceive room x) same fits, refl)
+stage_kept room old new Q x y (stage.Held buf) keeps receives sends fits = (fits, refl)
+stage_kept room old new Q x y (stage.Sending op count) keeps receives sends fits =
     let same = keeps op fits.holds (asked_as (asked_at old op) (IsSend y count) Q (sends count) fits.asks) in
     (pending_kept old new op (IsSend y count) same fits, ap (λ slot. bytes_sent (plain_in slot)) same)
 
@@ -108,6 +109,7 @@ moves_elsewhere old new near far (inl taken) h first second =
 moves_elsewhere old new near far (inr sent) h first second =
     (sent_others old new far h second sent, sent_inputs old new far h second sent)
 
+-- What moves between two handles keeps what each handle is.
 moves_streams : (old new : List HandleState) (near far : ℕ) → MovesBetween old near far new → KeepsStreams old new
 moves_streams old new near far (inl taken) h =
     let moves : MovesBetween old near far new = inl taken in (
@@ -144,6 +146,7 @@ idle_same : (flow : Option Flow) → StaysIdle flow flow
 idle_same None = tt
 idle_same (Some flow) = λ idle. idle
 
+-- One step that leaves an idle direction idle follows another.
 idle_then : (before between now : Option Flow) → StaysIdle before between → StaysIdle between now → StaysIdle before now
 idle_then None None None first second = tt
 idle_then None None (Some now) first second = second
@@ -153,12 +156,12 @@ idle_then (Some before) (Some between) None first second = second
 idle_then (Some before) (Some between) (Some now) first second = λ idle. second (first idle)
 
 -- The other direction goes on, where what it waits for is kept.
-pub back_kept : (old new : Ops Buf) (near far : ℕ) (back : Option Flow) → KeepsOps (IsElse near far) old new → FitsBack old near far back
-    → FitsBack new near far back × (held_by new back ≡ held_by old back)
-back_kept old new near far None keeps fits = (fits, refl)
-back_kept old new near far (Some flow) keeps fits =
-    let kept = stage_kept old new (IsElse near far) far near flow.stage keeps
-    (receive_else far near far (λ same. fits.0 (sym same))) (send_else near near far fits.0) fits.3 in
+pub back_kept : (room : ℕ) (old new : Ops Buf) (near far : ℕ) (back : Option Flow) → KeepsOps (IsElse near far) old new
+    → FitsBack room old near far back → FitsBack room new near far back × (held_by new back ≡ held_by old back)
+back_kept room old new near far None keeps fits = (fits, refl)
+back_kept room old new near far (Some flow) keeps fits =
+    let kept = stage_kept room old new (IsElse near far) far near flow.stage keeps
+    (receive_else room far near far (λ same. fits.0 (sym same))) (send_else near near far fits.0) fits.3 in
     ((fits.0, fits.1, fits.2, kept.0), kept.1)
 
 module _ {I : Type 0} (view : I → IoView) (tells : Bool) where
@@ -187,21 +190,22 @@ module _ {I : Type 0} (view : I → IoView) (tells : Bool) where
   -- What a step from the near handle to the far one leaves.
   pub forth_serves : (old new : LegacyState I Buf) (before : Connection) (flow : Flow) (ending : Bool) (c : Came) (answer : Served)
       → flow.from ≡ near_of before → flow.to ≡ far_of before → FitsConnection (ops_in old) before
-      → Flows view tells old new (near_of before) (far_of before) (held_forth (ops_in old) before) flow.stage c
+      → Flows view tells old new before.room (near_of before) (far_of before) (held_forth (ops_in old) before) flow.stage c
       → FollowsAs c before.ending ending answer → (before.ending ≡ true → IsIdle before.forth.stage → IsIdle flow.stage)
-      → Serves view tells old new before (record { forth = flow; back = before.back; ending = ending }) answer
+      → Serves view tells old new before (record { forth = flow; back = before.back; ending = ending; room = before.room }) answer
   forth_serves old new before flow ending c answer from to fits flows follows quiet =
       let near = near_of before in
       let far = far_of before in
-      let kept = back_kept (ops_in old) (ops_in new) near far before.back flows.leaves.ops fits.1 in
+      let kept = back_kept before.room (ops_in old) (ops_in new) near far before.back flows.leaves.ops fits.1 in
       record {
         near = from;
         far = to;
+        room = refl;
         fits = (
-          subst (λ h. FitsStage (ops_in new) h flow.to flow.stage) (sym from)
-              (subst (λ h. FitsStage (ops_in new) near h flow.stage) (sym to) flows.fits),
-          subst (λ h. FitsBack (ops_in new) h flow.to before.back) (sym from)
-              (subst (λ h. FitsBack (ops_in new) near h before.back) (sym to) kept.0),
+          subst (λ h. FitsStage before.room (ops_in new) h flow.to flow.stage) (sym from)
+              (subst (λ h. FitsStage before.room (ops_in new) near h flow.stage) (sym to) flows.fits),
+          subst (λ h. FitsBack before.room (ops_in new) h flow.to before.back) (sym from)
+              (subst (λ h. FitsBack before.room (ops_in new) near h before.back) (sym to) kept.0),
         );
         leaves = forth_leaves old new near far flows.leaves;
         lines = record {
@@ -217,28 +221,29 @@ module _ {I : Type 0} (view : I → IoView) (tells : Bool) where
           back_idle = λ marked. idle_same before.back;
         };
         marks = λ t. follows_marks (world_of view old) (world_of view new) c before
-            (record { forth = flow; back = before.back; ending = ending }) answer near follows from to
+            (record { forth = flow; back = before.back; ending = ending; room = before.room }) answer near follows from to
             (moves_streams (world_of view old) (world_of view new) near far (flows.leaves.moves t)) (flows.ended t) (inl refl);
       }
 
   -- What a step the other way leaves.
   pub back_serves : (old new : LegacyState I Buf) (before : Connection) (was flow : Flow) (ending : Bool) (c : Came) (answer : Served)
       → before.back ≡ Some was → flow.from ≡ was.from → flow.to ≡ was.to → FitsConnection (ops_in old) before
-      → Flows view tells old new was.from was.to (held_in (ops_in old) was.stage) flow.stage c
+      → Flows view tells old new before.room was.from was.to (held_in (ops_in old) was.stage) flow.stage c
       → FollowsAs c before.ending ending answer → (before.ending ≡ true → IsIdle was.stage → IsIdle flow.stage)
-      → Serves view tells old new before (record { forth = before.forth; back = Some flow; ending = ending }) answer
+      → Serves view tells old new before (record { forth = before.forth; back = Some flow; ending = ending; room = before.room }) answer
   back_serves old new before was flow ending c answer there from to fits flowing follows quiet =
       let near = near_of before in
       let far = far_of before in
-      let back = subst (FitsBack (ops_in old) near far) there fits.1 in
-      let flows : Flows view tells old new far near (held_in (ops_in old) was.stage) flow.stage c =
-      subst (λ h. Flows view tells old new h near (held_in (ops_in old) was.stage) flow.stage c) back.1
-      (subst (λ h. Flows view tells old new was.from h (held_in (ops_in old) was.stage) flow.stage c) back.2 flowing) in
-      let kept = stage_kept (ops_in old) (ops_in new) (IsElse far near) near far before.forth.stage flows.leaves.ops
-      (receive_else near far near back.0) (send_else far far near (λ same. back.0 (sym same))) fits.0 in
+      let back = subst (FitsBack before.room (ops_in old) near far) there fits.1 in
+      let flows : Flows view tells old new before.room far near (held_in (ops_in old) was.stage) flow.stage c =
+      subst (λ h. Flows view tells old new before.room h near (held_in (ops_in old) was.stage) flow.stage c) back.1
+      (subst (λ h. Flows view tells old new before.room was.from h (held_in (ops_in old) was.stage) flow.stage c) back.2 flowing) in
+      let kept = stage_kept before.room (ops_in old) (ops_in new) (IsElse far near) near far before.forth.stage flows.leaves.ops
+      (receive_else before.room near far near back.0) (send_else far far near (λ same. back.0 (sym same))) fits.0 in
       record {
         near = refl;
         far = refl;
+        room = refl;
         fits = (kept.0, (back.0, from ∙ back.1, to ∙ back.2, flows.fits));
         leaves = back_leaves old new near far flows.leaves;
         lines = record {
@@ -254,7 +259,7 @@ module _ {I : Type 0} (view : I → IoView) (tells : Bool) where
           back_idle = λ marked. subst (λ b. StaysIdle b (Some flow)) (sym there) (quiet marked);
         };
         marks = λ t. follows_marks (world_of view old) (world_of view new) c before
-            (record { forth = before.forth; back = Some flow; ending = ending }) answer far follows refl refl
+            (record { forth = before.forth; back = Some flow; ending = ending; room = before.room }) answer far follows refl refl
             (moves_streams (world_of view old) (world_of view new) far near (flows.leaves.moves t)) (flows.ended t) (inr refl);
       }
 
@@ -264,6 +269,7 @@ module _ {I : Type 0} (view : I → IoView) (tells : Bool) where
   none_serves driver conn fits = record {
     near = refl;
     far = refl;
+    room = refl;
     fits = fits;
     leaves = record {
       later = later-same (view driver.handling.io);
@@ -319,6 +325,7 @@ module _ {I : Type 0} (view : I → IoView) (tells : Bool) where
       record {
         near = second.near ∙ first.near;
         far = second.far ∙ first.far;
+        room = second.room ∙ first.room;
         fits = second.fits;
         leaves = leaves_then old mid new near far first.leaves leaves;
         lines = record {
@@ -343,6 +350,7 @@ module _ {I : Type 0} (view : I → IoView) (tells : Bool) where
   serves_closed old new before now serves = record {
     near = serves.near;
     far = serves.far;
+    room = serves.room;
     fits = serves.fits;
     leaves = serves.leaves;
     lines = serves.lines;

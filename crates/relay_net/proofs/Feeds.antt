@@ -5,13 +5,13 @@ use Rattle.std.proofs.Common.{Option, Some, None, Ok, Err}
 use Rattle.std.proofs.lemmas.Bool.Decides.{nat_tests}
 use Rattle.std.specs.Prelude.{OnOk, Result, nat_lt, option_map, slice_get, unwrap_or}
 use Rattle.std.proofs.lemmas.List.{append_assoc}
-use Rattle.ring_core.specs.Lists.{amended, passes}
-use Rattle.ring_core.specs.World.{WorldEnds, WorldFeeds, input_at, refuses_feed, with_end, with_input}
-use Rattle.ring_core.specs.declared.world.WorldError.{WorldError}
-use Rattle.ring_core.specs.declared.world.WorldError.TheVariants.{BadHandleEvent, OutOfMemory}
-use Rattle.ring_core.specs.declared.world.HandleState.{HandleState}
-use Rattle.ring_core.proofs.Amended.{get-amended, get-amended-other}
-use Rattle.ring_core.proofs.Numbers.{same-or-not}
+use Rattle.machine.specs.Lists.{amended, passes}
+use Rattle.machine.specs.World.{WorldEnds, WorldFeeds, input_at, refuses_feed, with_end, with_input}
+use Rattle.machine.specs.declared.world.WorldError.{WorldError}
+use Rattle.machine.specs.declared.world.WorldError.TheVariants.{BadHandleEvent, OutOfMemory}
+use Rattle.machine.specs.declared.world.HandleState.{HandleState}
+use Rattle.machine.proofs.Amended.{get-amended, get-amended-other}
+use Rattle.machine.proofs.Numbers.{same-or-not}
 use Rattle.net_stream.specs.Told.{output_at}
 use Rattle.relay_net.specs.Flow.{line}
 use Rattle.relay_net.specs.Keeping.{HasEnded}

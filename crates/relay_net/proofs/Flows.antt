@@ -6,12 +6,12 @@ use Rattle.rent_buf.specs.Buf.{built, content_of}
 use Rattle.rent_buf.specs.Buffer.{Buffer}
 use Rattle.rent_buf.specs.Parts.{Parts}
 use Rattle.rent_buf.specs.declared.plain.Buf.{Buf}
-use Rattle.ring_core.specs.declared.request.Outcome.{Outcome}
-use Rattle.ring_core.specs.declared.request.Outcome.TheVariants.{Count, From, Made, Fail}
-use Rattle.ring_core.specs.declared.request.Request.{Request}
-use Rattle.ring_core.specs.declared.request.Request.TheVariants.{Recv, Send}
-use Rattle.ring_core.specs.declared.world.HandleState.{HandleState}
-use Rattle.ring_core.specs.World.{input_at}
+use Rattle.machine.specs.declared.request.Outcome.{Outcome}
+use Rattle.machine.specs.declared.request.Outcome.TheVariants.{Count, From, Made, Fail}
+use Rattle.machine.specs.declared.request.Request.{Request}
+use Rattle.machine.specs.declared.request.Request.TheVariants.{Recv, Send}
+use Rattle.machine.specs.declared.world.HandleState.{HandleState}
+use Rattle.machine.specs.World.{input_at}
 use Rattle.driver_core.specs.Ops.{Ops}
 use Rattle.driver_core.specs.Slot.{serial_of}
 use Rattle.driver_core.specs.declared.op.Op.{Op}
@@ -46,19 +46,21 @@ any_asked None P is = is
 any_asked (Some request) P is = tt
 
 -- A receive of a direction is one of those that its frame leaves out, and so is a send.
-pub receive_apart : (from to : ℕ) (request : Request Buffer Parts) → IsReceive from request → IsElse from to request → ⊥
-receive_apart from to request is else = (subst (IsElse from to) is else) refl
+pub receive_apart : (room from to : ℕ) (request : Request Buffer Parts) → IsReceive room from request → IsElse from to request → ⊥
+receive_apart room from to request is else = (subst (IsElse from to) is.request_is else) refl
 
+-- Nor is a send of the direction.
 pub send_apart : (from to count : ℕ) (request : Request Buffer Parts) → IsSend to count request → IsElse from to request → ⊥
 send_apart from to count request is else = (subst (IsElse from to) is.request_is else) refl
 
 -- A stage that holds just some bytes fits, and holds these.
-pub just_fits : (ops : Ops Buf) (from to : ℕ) (s : Stage) (bytes : List ℕ) → HoldsJust s bytes → FitsStage ops from to s
-just_fits ops from to (stage.Idle spare) bytes is = tt
-just_fits ops from to (stage.Receiving op) bytes is = absurd is
-just_fits ops from to (stage.Held buf) bytes is = subst (λ bs. IsLoad (length bs)) (sym is.0) is.1
-just_fits ops from to (stage.Sending op count) bytes is = absurd is
+pub just_fits : (room : ℕ) (ops : Ops Buf) (from to : ℕ) (s : Stage) (bytes : List ℕ) → HoldsJust s bytes → FitsStage room ops from to s
+just_fits room ops from to (stage.Idle spare) bytes is = tt
+just_fits room ops from to (stage.Receiving op) bytes is = absurd is
+just_fits room ops from to (stage.Held buf) bytes is = subst (λ bs. IsLoad (length bs)) (sym is.0) is.1
+just_fits room ops from to (stage.Sending op count) bytes is = absurd is
 
+-- It holds just these bytes.
 pub just_holds : (ops : Ops Buf) (s : Stage) (bytes : List ℕ) → HoldsJust s bytes → held_in ops s ≡ bytes
 just_holds ops (stage.Idle spare) bytes is = sym is
 just_holds ops (stage.Receiving op) bytes is = absurd is
@@ -110,9 +112,9 @@ module _ {I : Type 0} (view : I → IoView) (tells : Bool) where
   }
 
   -- A direction that was stopped as it began.
-  pub stopped_flows : (old new : LegacyState I Buf) (from to : ℕ) (held : List ℕ) (s : Stage) (because : RelayError)
-      → Begins view tells old new from to held s (Some because) → Flows view tells old new from to held s (came.Stopped because)
-  stopped_flows old new from to held s because begins = record {
+  pub stopped_flows : (old new : LegacyState I Buf) (room from to : ℕ) (held : List ℕ) (s : Stage) (because : RelayError)
+      → Begins view tells old new room from to held s (Some because) → Flows view tells old new room from to held s (came.Stopped because)
+  stopped_flows old new room from to held s because begins = record {
     fits = begins.fits;
     leaves = stays_leaves old new from to begins.stays;
     line_is = λ t a b. same_line (world_of view old) (world_of view new) from to held (held_in (ops_in new) s) (begins.stays.world t)
@@ -122,10 +124,10 @@ module _ {I : Type 0} (view : I → IoView) (tells : Bool) where
   }
 
   -- One that began, and then was polled.
-  pub begun_flows : (old mid new : LegacyState I Buf) (from to : ℕ) (held : List ℕ) (s now : Stage) (c : Came)
-      → Begins view tells old mid from to held s None → Flows view tells mid new from to (held_in (ops_in mid) s) now c
-      → Flows view tells old new from to held now c
-  begun_flows old mid new from to held s now c begins flows = record {
+  pub begun_flows : (old mid new : LegacyState I Buf) (room from to : ℕ) (held : List ℕ) (s now : Stage) (c : Came)
+      → Begins view tells old mid room from to held s None → Flows view tells mid new room from to (held_in (ops_in mid) s) now c
+      → Flows view tells old new room from to held now c
+  begun_flows old mid new room from to held s now c begins flows = record {
     fits = flows.fits;
     leaves = then_leaves old mid new from to begins.stays flows.leaves;
     line_is = λ t a b.
@@ -170,11 +172,14 @@ pending_as ops op P Q gives pending = record {
     by-asked None is = is
     by-asked (Some request) is = gives request is
 
-pub pending_receive : (ops : Ops Buf) (op : Op) (from : ℕ) (buf : Buf) → built buf ≡ empty_buffer
-    → IsPending ops op (λ asked. asked ≡ Recv from (built buf)) → IsPending ops op (IsReceive from)
-pending_receive ops op from buf is pending =
-    pending_as ops op (λ asked. asked ≡ Recv from (built buf)) (IsReceive from) (λ request same. same ∙ ap (Recv from) is) pending
+-- A receive that was submitted is pending.
+pub pending_receive : (ops : Ops Buf) (op : Op) (room from : ℕ) (buf : Buf) → built buf ≡ empty_buffer room → IsLoad room
+    → IsPending ops op (λ asked. asked ≡ Recv from (built buf)) → IsPending ops op (IsReceive room from)
+pending_receive ops op room from buf is roomy pending =
+    pending_as ops op (λ asked. asked ≡ Recv from (built buf)) (IsReceive room from)
+    (λ request same. record { request_is = same ∙ ap (Recv from) is; roomy = roomy }) pending
 
+-- So is a send.
 pub pending_send : (ops : Ops Buf) (op : Op) (to count : ℕ) (buf : Buf) → length (content_of buf) ≡ count → IsLoad count
     → IsPending ops op (λ asked. asked ≡ Send to (built buf)) → IsPending ops op (IsSend to count)
 pending_send ops op to count buf is load pending =
@@ -210,18 +215,19 @@ none_stays view tells driver = record {
 }
 
 -- A direction that submits nothing, and one that polls nothing.
-pub still_begins : {I : Type 0} (view : I → IoView) (tells : Bool) (driver : LegacyState I Buf) (from to : ℕ) (s : Stage)
-    → FitsStage (ops_in driver) from to s → Begins view tells driver driver from to (held_in (ops_in driver) s) s None
-still_begins view tells driver from to s fits = record {
+pub still_begins : {I : Type 0} (view : I → IoView) (tells : Bool) (driver : LegacyState I Buf) (room from to : ℕ) (s : Stage)
+    → FitsStage room (ops_in driver) from to s → Begins view tells driver driver room from to (held_in (ops_in driver) s) s None
+still_begins view tells driver room from to s fits = record {
   fits = fits;
   stays = none_stays view tells driver;
   held_is = refl;
   stops = tt;
 }
 
-pub still_flows : {I : Type 0} (view : I → IoView) (tells : Bool) (driver : LegacyState I Buf) (from to : ℕ) (s : Stage)
-    → FitsStage (ops_in driver) from to s → Flows view tells driver driver from to (held_in (ops_in driver) s) s came.Goes
-still_flows view tells driver from to s fits = record {
+-- A direction that does nothing flows on as it was.
+pub still_flows : {I : Type 0} (view : I → IoView) (tells : Bool) (driver : LegacyState I Buf) (room from to : ℕ) (s : Stage)
+    → FitsStage room (ops_in driver) from to s → Flows view tells driver driver room from to (held_in (ops_in driver) s) s came.Goes
+still_flows view tells driver room from to s fits = record {
   fits = fits;
   leaves = stays_leaves view tells driver driver from to (none_stays view tells driver);
   line_is = λ t a b. refl;

@@ -3,29 +3,30 @@ use Rattle.std.proofs.Common.{ℕ, zero, suc, ◌≡◌, ◌∙◌, ◌≤◌, a
 use Rattle.std.proofs.Common.{List, [], ◌∷◌, ◌++◌, length, take, drop, Option, Some, None, Ok, Err, inl, inr, not}
 use Rattle.std.specs.Prelude.{◌&&◌, ◌||◌, min, option_map, slice_get, unwrap_or}
 use Rattle.std.specs.FinMap as map
-use Rattle.std.proofs.Math.Seq.{take-append_seam}
+use Rattle.std.proofs.Math.Seq.{take-append_seam, take-nil}
 use Rattle.std.proofs.lemmas.List.{append-nil, drop_all, take_all, take_min}
 use Rattle.rent_buf.specs.Buf.{built, content_of}
 use Rattle.rent_buf.specs.Buffer.{Buffer, shown}
 use Rattle.rent_buf.specs.Parts.{Parts}
 use Rattle.rent_buf.specs.declared.fault.OutOfMemory.{OutOfMemory as NoMemory}
+use Rattle.rent_buf.specs.declared.held.Held.TheVariants.{One}
 use Rattle.rent_buf.specs.declared.plain.Buf.{Buf}
-use Rattle.ring_core.specs.Attempt.{answer_if, attempt, is_readable, is_readable_at, is_shut, readable_by_kind, reads_at_once}
-use Rattle.ring_core.specs.Effect.{made_by}
-use Rattle.ring_core.specs.Lists.{is_empty, passes}
-use Rattle.ring_core.specs.Request.{call_of, named, plain_request, sent_of}
-use Rattle.ring_core.specs.World.{gives_bytes, input_at, is_pipe}
-use Rattle.ring_core.specs.WorldCall.{call_effect}
-use Rattle.ring_core.specs.declared.request.Call.TheVariants.{In, Out}
-use Rattle.ring_core.specs.declared.request.Outcome.{Outcome}
-use Rattle.ring_core.specs.declared.request.Outcome.TheVariants as ended
-use Rattle.ring_core.specs.declared.request.Request.{Request}
-use Rattle.ring_core.specs.declared.request.Request.TheVariants.{Recv, Send}
-use Rattle.ring_core.specs.declared.request.TheConstants.{MOST_ASKED}
-use Rattle.ring_core.specs.declared.request.Told.{Told}
-use Rattle.ring_core.specs.declared.request.Told.TheVariants.{Count, Fail}
-use Rattle.ring_core.specs.declared.world.HandleState.{HandleState}
-use Rattle.ring_core.specs.declared.world.call.TheConstants.{BROKEN_PIPE, INVALID}
+use Rattle.machine.specs.Attempt.{answer_if, attempt, is_readable, is_readable_at, is_shut, readable_by_kind, reads_at_once}
+use Rattle.machine.specs.Effect.{made_by}
+use Rattle.machine.specs.Lists.{is_empty, passes}
+use Rattle.machine.specs.Request.{call_of, held_want, named, plain_request, sent_of}
+use Rattle.machine.specs.World.{gives_bytes, input_at, is_pipe}
+use Rattle.machine.specs.WorldCall.{call_effect}
+use Rattle.machine.specs.declared.request.Call.TheVariants.{In, Out}
+use Rattle.machine.specs.declared.request.Outcome.{Outcome}
+use Rattle.machine.specs.declared.request.Outcome.TheVariants as ended
+use Rattle.machine.specs.declared.request.Request.{Request}
+use Rattle.machine.specs.declared.request.Request.TheVariants.{Recv, Send}
+use Rattle.machine.specs.declared.request.TheConstants.{MOST_ASKED}
+use Rattle.machine.specs.declared.request.Told.{Told}
+use Rattle.machine.specs.declared.request.Told.TheVariants.{Count, Fail}
+use Rattle.machine.specs.declared.world.HandleState.{HandleState}
+use Rattle.machine.specs.declared.world.call.TheConstants.{BROKEN_PIPE, INVALID}
 use Rattle.driver_core.specs.declared.op.Done.{Done as Ended}
 use Rattle.driver_core.specs.declared.op.Op.{Op}
 use Rattle.driver_core.specs.declared.op.PollOp.{PollOp}
@@ -43,17 +44,17 @@ use Rattle.ready_driver.specs.declared.ready.Direction.TheVariants as towards
 use Rattle.op_driver.specs.Legacy.{LegacyPolls}
 use Rattle.net_stream.specs.Told.{IsStream, output_at}
 use Rattle.relay_net.specs.Flow.{IfAsked, IsPending, IsReceive, IsSend, asked_at, bytes_sent, empty_buffer, held_in}
-use Rattle.relay_net.specs.Forwarding.{CanForward, Forwards, KeepsSeen}
+use Rattle.relay_net.specs.Forwarding.{CanForward, Forwards, IsUnmetAt, KeepsSeen}
 use Rattle.relay_net.specs.Keeping.{KeepsUsers, world_of}
 use Rattle.relay_net.specs.Outcomes.{CountsAs, ReceivedAs}
 use Rattle.relay_net.specs.Relay.{IsAccept}
 use Rattle.relay_net.specs.declared.flow.Came.TheVariants as came
 use Rattle.relay_net.specs.declared.flow.Stage.{Stage}
-use Rattle.relay_net.specs.declared.flow.TheConstants.{ROOM}
+use Rattle.relay_net.specs.declared.flow.Stage.TheVariants as stage
 use Rattle.relay_net.proofs.Calls.{Lawful, handed_users, same_users}
 use Rattle.relay_net.proofs.Flows.{just_holds}
 use Rattle.relay_net.proofs.Listens.{flying_awaits, met_at_hand}
-use Rattle.relay_net.proofs.Moves.{Brings, Brought, Takes, Took, received, sent, settles}
+use Rattle.relay_net.proofs.Moves.{Brings, Brought, Takes, Took, received, sent, settles, whole_room}
 use Rattle.relay_net.proofs.Polls.{pending_waits, ready_ends, same_asked}
 use Rattle.relay_net.proofs.Seeing.{BitsFor, accept_unread, handed_bits, keeps_seen, left_bits, pending_bits, ready_bits, receive_unread}
 use Rattle.relay_net.proofs.Seeing.{same_bits}
@@ -111,10 +112,12 @@ asked_request None P is = absurd is
 asked_request (Some request) P is = (request, (refl, is))
 
 -- What a receive waits for; and one that would block is of a handle that isn't readable.
-pub receive_reads : (request : Request Buffer Parts) (from : ℕ) (world : List HandleState) → IsReceive from request
+pub receive_reads : (request : Request Buffer Parts) (room from : ℕ) (world : List HandleState) → IsReceive room from request
     → (awaits request ≡ Some (from, towards.Read)) × (attempt world (call_of request) ≡ None → is_readable_at world from ≡ false)
-receive_reads request from world is =
-    (ap awaits is, λ none. receive_unread world from ROOM (sym (ap (λ r. attempt world (call_of r)) is) ∙ none))
+receive_reads request room from world is = (
+  ap awaits is.request_is,
+  λ none. receive_unread world from (held_want (One (empty_buffer room))) (sym (ap (λ r. attempt world (call_of r)) is.request_is) ∙ none),
+)
 
 -- So it is of an accept.
 pub accept_reads : (request : Request Buffer Parts) (listener : ℕ) (world : List HandleState) → IsAccept listener request
@@ -252,12 +255,12 @@ module _ {I : Type 0} (view : I → IoView) (tells memory : Bool) (told : IsTrue
       (io_at new.handling.records h).ready (ended_bits old new op done task asked h held) (falls (told memory_is) h stream) seen
 
   -- A receive that is pending on a stream whose bits show what it has took all: nothing waits.
-  pub receive_waits_on : (old new : LegacyState I Buf) (op back : Op) (answer : PollOp Buf) (task from to : ℕ) → answer ≡ Pending back
-      → LegacyPolls files built called view tells memory old new op task (Ok answer) → IsPending (ops_in old) op (IsReceive from)
-      → IsTrue memory → CanForward view old from to → Forwards (world_of view old) (world_of view new) from to [] []
-  receive_waits_on old new op back answer task from to is polls pending memory_is can = record {
+  pub receive_waits_on : (old new : LegacyState I Buf) (op back : Op) (answer : PollOp Buf) (task room from to : ℕ) → answer ≡ Pending back
+      → LegacyPolls files built called view tells memory old new op task (Ok answer) → IsPending (ops_in old) op (IsReceive room from)
+      → IsTrue memory → CanForward view old from to → Forwards room (world_of view old) (world_of view new) from to [] []
+  receive_waits_on old new op back answer task room from to is polls pending memory_is can = record {
     sends = λ some. absurd (some refl);
-    takes = λ none. sym (ap (take ROOM) (by (is_readable_at (world_of view old) from) refl));
+    takes = λ none. sym (ap (take room) (by (is_readable_at (world_of view old) from) refl) ∙ take-nil room);
   }
     where
       asked : LegacyPolls files built called view tells memory old new op task (Ok (Pending back))
@@ -266,32 +269,64 @@ module _ {I : Type 0} (view : I → IoView) (tells memory : Bool) (told : IsTrue
       by : (b : Bool) → is_readable_at (world_of view old) from ≡ b → input_at (world_of view old) from ≡ []
       by false unread = unread_none (world_of view old) from can.from_stream unread
       by true readable =
-          let request = asked_request (asked_at (ops_in old) op) (IsReceive from) pending.asks in
-          let waits = flying_awaits (map.get old.slots.values op.key) request.0 pending.flies request.1.0 ∙ ap awaits request.1.1 in
+          let request = asked_request (asked_at (ops_in old) op) (IsReceive room from) pending.asks in
+          let waits = flying_awaits (map.get old.slots.values op.key) request.0 pending.flies request.1.0 ∙ ap awaits
+          request.1.1.request_is in
           let met = ap (λ w. is_met_at old.handling.records (unless (files old.handling.io) w)) waits
           ∙ met_at_hand (files old.handling.io) old.handling.records from towards.Read (can.from_seen.reads readable) in
           let blocks = pending_blocks old new op back task request.0 asked request.1.0 met memory_is in
-          let unread = receive_unread (world_of view old) from ROOM
-          (sym (ap (λ r. attempt (world_of view old) (call_of r)) request.1.1) ∙ blocks) in
+          let unread = receive_unread (world_of view old) from (held_want (One (empty_buffer room)))
+          (sym (ap (λ r. attempt (world_of view old) (call_of r)) request.1.1.request_is) ∙ blocks) in
           absurd (true≢false (sym readable ∙ unread))
 
+  -- One that isn't polled, since no bit meets it, waits for nothing that is there.
+  receive_unmet : (driver : LegacyState I Buf) (room from to : ℕ)
+      → meets (io_at driver.handling.records from).ready (mask_of towards.Read) ≡ false → CanForward view driver from to
+      → Forwards room (world_of view driver) (world_of view driver) from to [] []
+  receive_unmet driver room from to unmet can = record {
+    sends = λ some. absurd (some refl);
+    takes = λ none. sym (ap (take room) (unread_none (world_of view driver) from can.from_stream
+        (by (is_readable_at (world_of view driver) from) refl)) ∙ take-nil room);
+  }
+    where
+      by : (b : Bool) → is_readable_at (world_of view driver) from ≡ b → is_readable_at (world_of view driver) from ≡ false
+      by false unread = unread
+      by true readable = absurd (true≢false (sym (can.from_seen.reads readable) ∙ unmet))
+
+  -- There is no such send.
+  send_unmet : (driver : LegacyState I Buf) (room from to : ℕ) (held now : List ℕ)
+      → meets (io_at driver.handling.records to).ready (mask_of towards.Write) ≡ false → CanForward view driver from to
+      → Forwards room (world_of view driver) (world_of view driver) from to held now
+  send_unmet driver room from to held now unmet can = absurd (true≢false (sym can.to_seen.writes ∙ unmet))
+
+  -- So a direction whose call can't be made yet has forwarded what it can.
+  pub unmet_forwards : (driver : LegacyState I Buf) (room from to : ℕ) (s : Stage) → IsUnmetAt driver.handling.records from to s
+      → CanForward view driver from to
+      → Forwards room (world_of view driver) (world_of view driver) from to (held_in (ops_in driver) s) (held_in (ops_in driver) s)
+  unmet_forwards driver room from to (stage.Idle spare) unmet can = absurd unmet
+  unmet_forwards driver room from to (stage.Receiving op) unmet can = receive_unmet driver room from to unmet can
+  unmet_forwards driver room from to (stage.Held buf) unmet can = absurd unmet
+  unmet_forwards driver room from to (stage.Sending op count) unmet can =
+      send_unmet driver room from to (held_in (ops_in driver) (stage.Sending op count))
+      (held_in (ops_in driver) (stage.Sending op count)) unmet can
+
   -- A send that is pending there is none.
-  pub send_waits_on : (old new : LegacyState I Buf) (op back : Op) (answer : PollOp Buf) (task from to count : ℕ) (held now : List ℕ)
+  pub send_waits_on : (old new : LegacyState I Buf) (op back : Op) (answer : PollOp Buf) (task room from to count : ℕ) (held now : List ℕ)
       → answer ≡ Pending back
       → LegacyPolls files built called view tells memory old new op task (Ok answer) → IsPending (ops_in old) op (IsSend to count)
-      → IsTrue memory → CanForward view old from to → Forwards (world_of view old) (world_of view new) from to held now
-  send_waits_on old new op back answer task from to count held now is polls pending memory_is can =
+      → IsTrue memory → CanForward view old from to → Forwards room (world_of view old) (world_of view new) from to held now
+  send_waits_on old new op back answer task room from to count held now is polls pending memory_is can =
       absurd (send_goes old new op back task to count
       (subst (λ a. LegacyPolls files built called view tells memory old new op task (Ok a)) is polls) pending
       (met_at_hand (files old.handling.io) old.handling.records to towards.Write can.to_seen.writes) memory_is can.to_stream)
 
   -- A receive that ended, and didn't bring the end, brought what waits, as much as it has room for.
-  pub receive_comes : (old new : LegacyState I Buf) (op : Op) (answer : PollOp Buf) (done : Ended Buf) (task from to : ℕ) (buf : Buf)
+  pub receive_comes : (old new : LegacyState I Buf) (op : Op) (answer : PollOp Buf) (done : Ended Buf) (task room from to : ℕ) (buf : Buf)
       (s : Stage) → answer ≡ Ready done → LegacyPolls files built called view tells memory old new op task (Ok answer)
-      → IsPending (ops_in old) op (IsReceive from) → plain_request built done.request ≡ Recv from (built buf)
+      → IsPending (ops_in old) op (IsReceive room from) → plain_request built done.request ≡ Recv from (built buf)
       → ReceivedAs done.outcome (content_of buf) s came.Goes → IsTrue memory → IsStream (world_of view old) from
-      → Forwards (world_of view old) (world_of view new) from to [] (held_in (ops_in new) s)
-  receive_comes old new op answer done task from to buf s is polls pending back ends memory_is stream = record {
+      → Forwards room (world_of view old) (world_of view new) from to [] (held_in (ops_in new) s)
+  receive_comes old new op answer done task room from to buf s is polls pending back ends memory_is stream = record {
     sends = λ some. absurd (some refl);
     takes = λ none. by done.outcome count ends (subst (λ b. Brings (view old.handling.io) (view new.handling.io) tells from done.outcome
         (shown b)) (sym same) brought.brings);
@@ -301,7 +336,7 @@ module _ {I : Type 0} (view : I → IoView) (tells memory : Bool) (told : IsTrue
       asked = subst (λ a. LegacyPolls files built called view tells memory old new op task (Ok a)) is polls
 
       brought : Brought (view old.handling.io) (view new.handling.io) tells from done.outcome (plain_request built done.request)
-      brought = (received view tells memory files called law old new op done task from asked pending).0
+      brought = (received view tells memory files called law old new op done task room from asked pending).0
 
       recv_same : (h : ℕ) (one other : Buffer) → ◌≡◌ {A = Request Buffer Parts} (Recv h one) (Recv h other) → one ≡ other
       recv_same h one other same = cc
@@ -310,16 +345,18 @@ module _ {I : Type 0} (view : I → IoView) (tells memory : Bool) (told : IsTrue
       same = recv_same from (built buf) brought.buf (sym back ∙ brought.request_is)
 
       waiting : ℕ
-      waiting = min ROOM (length (input_at (world_of view old) from))
+      waiting = min room (length (input_at (world_of view old) from))
 
       count : done.outcome ≡ ended.Count waiting
       count =
-          let ended_call = ready_ends view tells memory files called law old new op done task (IsReceive from) asked pending in
-          let request : ended_call.request ≡ Recv from empty_buffer =
-          subst (λ a. IfAsked a (IsReceive from)) ended_call.asked pending.asks in
+          let ended_call = ready_ends view tells memory files called law old new op done task (IsReceive room from) asked pending in
+          let own : IsReceive room from ended_call.request = subst (λ a. IfAsked a (IsReceive room from)) ended_call.asked pending.asks in
+          let request = own.request_is in
+          let whole = whole_room room own.roomy in
           let made = (ended_call.made.called memory_is).0 in
-          let counted : made.told ≡ Count waiting = receive_told (world_of view old) from ROOM made.told stream
-          (sym (ap (λ r. attempt (world_of view old) (call_of r)) request) ∙ made.made) in
+          let counted : made.told ≡ Count waiting = receive_told (world_of view old) from (held_want (One (empty_buffer room))) made.told
+          stream (sym (ap (λ r. attempt (world_of view old) (call_of r)) request) ∙ made.made)
+          ∙ ap (λ w. Count (min w (length (input_at (world_of view old) from)))) whole in
           let call : ended_call.call ≡ ended.Count waiting = made.outcome_is
           ∙ (ap (λ t. (call_effect (world_of view old) ended_call.request t).outcome) counted
           ∙ ap (λ r. (call_effect (world_of view old) r (Count waiting)).outcome) request) in
@@ -327,14 +364,14 @@ module _ {I : Type 0} (view : I → IoView) (tells memory : Bool) (told : IsTrue
 
       by_count : (k : ℕ) → k ≡ waiting → CountsAs k (content_of buf) s came.Goes → length (content_of buf) ≡ k
           → content_of buf ++ input_at (world_of view new) from ≡ input_at (world_of view old) from
-          → held_in (ops_in new) s ≡ take ROOM (input_at (world_of view old) from)
+          → held_in (ops_in new) s ≡ take room (input_at (world_of view old) from)
       by_count zero is ends size parts = absurd cc
       by_count (suc k) is ends size parts = just_holds (ops_in new) s (content_of buf) ends.0
-          ∙ came_first (content_of buf) (input_at (world_of view new) from) (input_at (world_of view old) from) ROOM parts (size ∙ is)
+          ∙ came_first (content_of buf) (input_at (world_of view new) from) (input_at (world_of view old) from) room parts (size ∙ is)
 
       by : (outcome : Outcome) → outcome ≡ ended.Count waiting → ReceivedAs outcome (content_of buf) s came.Goes
           → Brings (view old.handling.io) (view new.handling.io) tells from outcome (content_of buf)
-          → held_in (ops_in new) s ≡ take ROOM (input_at (world_of view old) from)
+          → held_in (ops_in new) s ≡ take room (input_at (world_of view old) from)
       by (ended.Count k) is ends brings =
           let e : k ≡ waiting = cc in by_count k e ends brings.0 (brings.2 (told memory_is)).0
       by (ended.From k addr) is ends brings = absurd cc
@@ -342,12 +379,13 @@ module _ {I : Type 0} (view : I → IoView) (tells memory : Bool) (told : IsTrue
       by (ended.Fail error) is ends brings = absurd cc
 
   -- A send that ended sent all that it had.
-  pub send_comes : (old new : LegacyState I Buf) (op : Op) (answer : PollOp Buf) (done : Ended Buf) (task from to count : ℕ) (buf : Buf)
+  pub send_comes : (old new : LegacyState I Buf) (op : Op) (answer : PollOp Buf) (done : Ended Buf) (task room from to count : ℕ)
+      (buf : Buf)
       (s : Stage) → answer ≡ Ready done → LegacyPolls files built called view tells memory old new op task (Ok answer)
       → IsPending (ops_in old) op (IsSend to count) → plain_request built done.request ≡ Send to (built buf)
       → IsTrue memory → IsStream (world_of view old) to
-      → Forwards (world_of view old) (world_of view new) from to (bytes_sent (asked_at (ops_in old) op)) (held_in (ops_in new) s)
-  send_comes old new op answer done task from to count buf s is polls pending back memory_is stream = record {
+      → Forwards room (world_of view old) (world_of view new) from to (bytes_sent (asked_at (ops_in old) op)) (held_in (ops_in new) s)
+  send_comes old new op answer done task room from to count buf s is polls pending back memory_is stream = record {
     sends = λ some. by done.outcome outcome went.1.1.takes ∙ ap (λ bs. output_at (world_of view old) to ++ bs) (ap bytes_sent (sym
         went.1.0));
     takes = λ none.
@@ -370,7 +408,7 @@ module _ {I : Type 0} (view : I → IoView) (tells memory : Bool) (told : IsTrue
       size : length (shown went.0) ≡ count
       size = ap (λ r. length (bytes_sent (Some r))) own.request_is ∙ own.count_is
 
-      load : (1 ≤ length (shown went.0)) × (length (shown went.0) ≤ ROOM)
+      load : (1 ≤ length (shown went.0)) × (length (shown went.0) ≤ MOST_ASKED)
       load = (
         let some = own.load.0 in let e = size in omega (arith, some, e),
         let most = own.load.1 in let e = size in omega (
@@ -381,7 +419,7 @@ module _ {I : Type 0} (view : I → IoView) (tells memory : Bool) (told : IsTrue
       )
 
       whole : take MOST_ASKED (shown went.0) ≡ shown went.0
-      whole = take_all MOST_ASKED (shown went.0) (let most = load.1 in omega (arith, most))
+      whole = take_all MOST_ASKED (shown went.0) load.1
 
       outcome : done.outcome ≡ ended.Count (length (shown went.0))
       outcome =

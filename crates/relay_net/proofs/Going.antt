@@ -1,13 +1,13 @@
 -- Handles that listen, and streams whose end isn't marked, through what calls do to handles.
 use Rattle.std.proofs.Common.{ℕ, ◌≡◌, ◌∙◌, ap, sym, refl, subst, List, [], ◌∷◌, ◌++◌, inl, inr}
 use Rattle.std.specs.Prelude.{option_map, slice_get}
-use Rattle.ring_core.specs.declared.world.HandleKind.TheVariants.{Stream}
-use Rattle.ring_core.specs.declared.world.HandleState.{HandleState}
-use Rattle.ring_core.specs.Effect.{sent_to_kind, with_sent, without_front}
-use Rattle.ring_core.specs.Lists.{amended}
-use Rattle.ring_core.specs.World.{fresh}
-use Rattle.ring_core.proofs.Amended.{get-amended, get-amended-other, there-before}
-use Rattle.ring_core.proofs.Numbers.{same-or-not}
+use Rattle.machine.specs.declared.world.HandleKind.TheVariants.{Stream}
+use Rattle.machine.specs.declared.world.HandleState.{HandleState}
+use Rattle.machine.specs.Effect.{sent_to_kind, with_sent, without_front}
+use Rattle.machine.specs.Lists.{amended}
+use Rattle.machine.specs.World.{fresh}
+use Rattle.machine.proofs.Amended.{get-amended, get-amended-other, there-before}
+use Rattle.machine.proofs.Numbers.{same-or-not}
 use Rattle.driver_core.proofs.Lists.{get-front}
 use Rattle.relay_net.specs.Keeping.{MovesBetween}
 use Rattle.relay_net.specs.Listening.{AreGoingBut, IsListener}
@@ -23,6 +23,7 @@ record KeepsGoing (change : HandleState → HandleState) : Type 0 where
 taken_going : (k : ℕ) → KeepsGoing (without_front k)
 taken_going k = record { kind = λ handle. refl; ended = λ handle stream. refl }
 
+-- So does what is sent.
 sent_going : (bytes : List ℕ) → KeepsGoing (with_sent bytes)
 sent_going bytes = record {
   kind = λ handle. same_kind handle.kind bytes handle;
@@ -65,6 +66,7 @@ moves_listens old new near far (inr (inl same)) h listens = subst (λ w. IsListe
 moves_listens old new near far (inr (inr sent)) h listens =
     subst (λ w. IsListener w h) (sym sent.1) (amended_listens (with_sent sent.0) (sent_going sent.0) old far h listens)
 
+-- Where no handle but one is marked, none but it is behind what moves.
 pub moves_going : (old new : List HandleState) (near far : ℕ) → MovesBetween old near far new → (h : ℕ) → AreGoingBut h old
     → AreGoingBut h new
 moves_going old new near far (inl (inl same)) h going = subst (AreGoingBut h) (sym same) going
@@ -82,6 +84,7 @@ appended_listens world h listens = record {
   kind = listens.kind;
 }
 
+-- Nor behind a new handle.
 pub appended_going : (world : List HandleState) (h : ℕ) → AreGoingBut h world → AreGoingBut h (world ++ fresh Stream ∷ [])
 appended_going world h going g handle other there = elim (get_pushed world (fresh Stream) g handle there) [
   | inl was ↦ going g handle other was

@@ -10,18 +10,18 @@ use Rattle.rent_buf.specs.declared.plain.Buf.{Buf}
 use Rattle.rent_buf.specs.declared.fault.OutOfMemory.{OutOfMemory as NoMemory}
 use Rattle.handle_core.specs.Table.{Table, by_user, holders_at, nobody, with_holders, with_operation, without_operation, without_user}
 use Rattle.handle_core.specs.declared.table.Holders.{Holders}
-use Rattle.ring_core.specs.Effect.{made_by}
-use Rattle.ring_core.specs.Lists.{has_number}
-use Rattle.ring_core.specs.Request.{named, plain_request}
-use Rattle.ring_core.specs.declared.request.Outcome.{Outcome}
-use Rattle.ring_core.specs.declared.request.Outcome.TheVariants.{Count, From, Made, Fail}
-use Rattle.ring_core.specs.declared.request.Request.{Request}
-use Rattle.ring_core.specs.declared.request.Request.TheVariants.{Recv, Send}
-use Rattle.ring_core.specs.declared.world.HandleKind.TheVariants.{Stream}
-use Rattle.ring_core.proofs.Amended.{get-amended-other, get-amended-same, joined-cases, length-amended}
-use Rattle.ring_core.proofs.Appended.{get-append-end}
-use Rattle.ring_core.proofs.Leaving.{has-first, has-later}
-use Rattle.ring_core.proofs.Numbers.{same-or-not}
+use Rattle.machine.specs.Effect.{made_by}
+use Rattle.machine.specs.Lists.{has_number}
+use Rattle.machine.specs.Request.{named, plain_request}
+use Rattle.machine.specs.declared.request.Outcome.{Outcome}
+use Rattle.machine.specs.declared.request.Outcome.TheVariants.{Count, From, Made, Fail}
+use Rattle.machine.specs.declared.request.Request.{Request}
+use Rattle.machine.specs.declared.request.Request.TheVariants.{Recv, Send}
+use Rattle.machine.specs.declared.world.HandleKind.TheVariants.{Stream}
+use Rattle.machine.proofs.Amended.{get-amended-other, get-amended-same, joined-cases, length-amended}
+use Rattle.machine.proofs.Appended.{get-append-end}
+use Rattle.machine.proofs.Leaving.{has-first, has-later}
+use Rattle.machine.proofs.Numbers.{same-or-not}
 use Rattle.driver_core.specs.Holds.{front_if, is_nobody, left_holders, named_in, settle_if, settled, unheld_by, with_ops, without_ops}
 use Rattle.driver_core.specs.declared.op.Done.{Done as Ended}
 use Rattle.driver_core.specs.declared.op.Op.{Op}
@@ -439,15 +439,16 @@ module _ {I : Type 0} (view : I → IoView) where
       }
 
       -- A receive, or a send, makes none.
-      pub received_keys : (old new : LegacyState I Buf) (op : Op) (answer : PollOp Buf) (done : Ended Buf) (task from : ℕ)
+      pub received_keys : (old new : LegacyState I Buf) (op : Op) (answer : PollOp Buf) (done : Ended Buf) (task room from : ℕ)
           → answer ≡ Ready done → LegacyPolls files built called view tells memory old new op task (Ok answer)
-          → IsPending (ops_in old) op (IsReceive from) → KeepsKeys view memory old new
-      received_keys old new op answer done task from is polls pending =
+          → IsPending (ops_in old) op (IsReceive room from) → KeepsKeys view memory old new
+      received_keys old new op answer done task room from is polls pending =
           let asked = subst (λ a. LegacyPolls files built called view tells memory old new op task (Ok a)) is polls in
-          let ends = ready_ends view tells memory files called law old new op done task (IsReceive from) asked pending in
-          let request : ends.request ≡ Recv from empty_buffer = subst (λ a. IfAsked a (IsReceive from)) ends.asked pending.asks in
+          let ends = ready_ends view tells memory files called law old new op done task (IsReceive room from) asked pending in
+          let own : IsReceive room from ends.request = subst (λ a. IfAsked a (IsReceive room from)) ends.asked pending.asks in
+          let request = own.request_is in
           ended_keys old new op done ends (λ h made.
-          let no : ◌≡◌ {A = Bool} false true = (subst (EndsFor (Recv from empty_buffer) (plain_request built done.request)) made
+          let no : ◌≡◌ {A = Bool} false true = (subst (EndsFor (Recv from (empty_buffer room)) (plain_request built done.request)) made
           (subst (λ r. EndsFor r (plain_request built done.request) ends.call) request ends.made.ends)).0 in
           absurd cc)
 
@@ -478,8 +479,8 @@ module _ {I : Type 0} (view : I → IoView) where
           (subst (λ o. called old.handling.io ends.request ends.mid.io (plain_request built done.request) (Done o)) made ends.calls))
 
 -- The handles of a relay are its user's, so they are registered.
-pub sound_registered : {I : Type 0} (view : I → IoView) (driver : LegacyState I Buf) (listener : ℕ) (accept : Option Op)
-    (all : List Connection) → IsSound (ops_in driver) driver.handling.table listener accept all → HasKeys view driver.handling
+pub sound_registered : {room : ℕ} {I : Type 0} (view : I → IoView) (driver : LegacyState I Buf) (listener : ℕ) (accept : Option Op)
+    (all : List Connection) → IsSound room (ops_in driver) driver.handling.table listener accept all → HasKeys view driver.handling
     → AreRegistered view driver listener all
 sound_registered view driver listener accept all sound has = record {
   held = has;

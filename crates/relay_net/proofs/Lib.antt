@@ -21,3 +21,4 @@ pub mod Relays
 pub mod Rounds
 pub mod Seeing
 pub mod Showing
+pub mod Stepping

@@ -9,21 +9,21 @@ use Rattle.rent_buf.specs.Parts.{Parts}
 use Rattle.rent_buf.specs.declared.plain.Buf.{Buf}
 use Rattle.handle_core.specs.Table.{Table, nobody}
 use Rattle.handle_core.specs.declared.table.Holders.{Holders}
-use Rattle.ring_core.specs.Attempt.{answer_if, attempt, is_readable, is_readable_at, readable_by_kind, reads_at_once}
-use Rattle.ring_core.specs.Lists.{passes}
-use Rattle.ring_core.specs.Request.{call_of, named, plain_request}
-use Rattle.ring_core.specs.World.{is_file, is_listener}
-use Rattle.ring_core.specs.WorldCall.{call_effect}
-use Rattle.ring_core.specs.declared.entry.TheConstants.{MOST_HANDLES}
-use Rattle.ring_core.specs.declared.request.Call.TheVariants as call
-use Rattle.ring_core.specs.declared.request.Outcome.TheVariants as ended
-use Rattle.ring_core.specs.declared.request.Request.{Request}
-use Rattle.ring_core.specs.declared.request.Request.TheVariants.{Recv, ReadVec, Send, WriteVec, RecvMsg, SendMsg, Read, Write}
-use Rattle.ring_core.specs.declared.request.Request.TheVariants.{SpliceTo, SpliceFrom, Accept, Open, Connect, Fsync, PollAdd, MkDir, Rename}
-use Rattle.ring_core.specs.declared.request.Request.TheVariants.{Unlink}
-use Rattle.ring_core.specs.declared.request.Told.TheVariants as told
-use Rattle.ring_core.specs.declared.world.HandleState.{HandleState}
-use Rattle.ring_core.specs.declared.world.call.TheConstants.{INVALID}
+use Rattle.machine.specs.Attempt.{answer_if, attempt, is_readable, is_readable_at, readable_by_kind, reads_at_once}
+use Rattle.machine.specs.Lists.{passes}
+use Rattle.machine.specs.Request.{call_of, named, plain_request}
+use Rattle.machine.specs.World.{is_file, is_listener}
+use Rattle.machine.specs.WorldCall.{call_effect}
+use Rattle.machine.specs.declared.world.TheConstants.{MOST_HANDLES}
+use Rattle.machine.specs.declared.request.Call.TheVariants as call
+use Rattle.machine.specs.declared.request.Outcome.TheVariants as ended
+use Rattle.machine.specs.declared.request.Request.{Request}
+use Rattle.machine.specs.declared.request.Request.TheVariants.{Recv, ReadVec, Send, WriteVec, RecvMsg, SendMsg, Read, Write}
+use Rattle.machine.specs.declared.request.Request.TheVariants.{SpliceTo, SpliceFrom, Accept, Open, Connect, Fsync, PollAdd, MkDir, Rename}
+use Rattle.machine.specs.declared.request.Request.TheVariants.{Unlink}
+use Rattle.machine.specs.declared.request.Told.TheVariants as told
+use Rattle.machine.specs.declared.world.HandleState.{HandleState}
+use Rattle.machine.specs.declared.world.call.TheConstants.{INVALID}
 use Rattle.driver_core.specs.declared.op.Done.{Done as Ended}
 use Rattle.driver_core.specs.declared.op.Op.{Op}
 use Rattle.driver_core.specs.declared.op.PollOp.{PollOp}
@@ -224,6 +224,7 @@ pub on_ok : {T E : Type 0} (result : Result T E) (P : Type 0) → P → OnOk res
 on_ok (Ok done) P is = is
 on_ok (Err error) P is = tt
 
+-- What an Ok brings brings what follows from it.
 pub map_ok : {T E : Type 0} (result : Result T E) (P Q : Type 0) → (P → Q) → OnOk result P → OnOk result Q
 map_ok (Ok done) P Q gives is = gives is
 map_ok (Err error) P Q gives is = tt

@@ -1,18 +1,18 @@
 -- Which handles have ended, and so which connections are ending.
-use Rattle.std.proofs.Common.{ℕ, zero, suc, ◌≡◌, ◌∙◌, ap, sym, refl, subst, arith, Bool, true, false, List, [], ◌∷◌, ◌++◌}
+use Rattle.std.proofs.Common.{ℕ, zero, suc, ◌≡◌, ◌≤◌, ◌∙◌, ap, sym, refl, subst, arith, Bool, true, false, List, [], ◌∷◌, ◌++◌}
 use Rattle.std.proofs.Common.{Option, Some, None, inl, inr, drop, length}
 use Rattle.std.specs.Prelude.{◌&&◌, ◌⊎◌, option_map, slice_get, slice_set}
 use Rattle.std.specs.List.{remove}
 use Rattle.std.proofs.lemmas.Bool.Decides.{nat_tests}
-use Rattle.ring_core.specs.declared.request.Call.TheVariants.{In}
-use Rattle.ring_core.specs.declared.world.HandleKind.TheVariants.{Stream}
-use Rattle.ring_core.specs.declared.world.HandleState.{HandleState}
-use Rattle.ring_core.specs.Effect.{sent_to_kind, with_sent, without_front}
-use Rattle.ring_core.specs.Lists.{amended, passes}
-use Rattle.ring_core.specs.Outcome.{may_count, may_read}
-use Rattle.ring_core.specs.World.{fresh, gives_bytes}
-use Rattle.ring_core.proofs.Amended.{get-amended, get-amended-other}
-use Rattle.ring_core.proofs.Numbers.{same-or-not}
+use Rattle.machine.specs.declared.request.Call.TheVariants.{In}
+use Rattle.machine.specs.declared.world.HandleKind.TheVariants.{Stream}
+use Rattle.machine.specs.declared.world.HandleState.{HandleState}
+use Rattle.machine.specs.Effect.{sent_to_kind, with_sent, without_front}
+use Rattle.machine.specs.Lists.{amended, passes}
+use Rattle.machine.specs.Outcome.{may_count, may_read}
+use Rattle.machine.specs.World.{fresh, gives_bytes}
+use Rattle.machine.proofs.Amended.{get-amended, get-amended-other}
+use Rattle.machine.proofs.Numbers.{same-or-not}
 use Rattle.driver_core.proofs.Lists.{get-front}
 use Rattle.net_stream.specs.Told.{IsStream}
 use Rattle.net_stream.proofs.Handles.{same_kind}
@@ -53,12 +53,14 @@ none_left : (k : ℕ) → ◌≡◌ {A = List ℕ} (drop k []) []
 none_left zero = refl
 none_left (suc k) = refl
 
+-- A receive keeps what has ended.
 taken_keeps : (k : ℕ) → KeepsEnded (without_front k)
 taken_keeps k = record {
   kind = λ handle. refl;
   spent = λ handle stream is. (ap (drop k) is.0 ∙ none_left k, is.1);
 }
 
+-- So does a send.
 sent_keeps : (bytes : List ℕ) → KeepsEnded (with_sent bytes)
 sent_keeps bytes = record {
   kind = λ handle. same_kind handle.kind bytes handle;
@@ -86,14 +88,14 @@ appended_ended world h ended = record {
 }
 
 -- A receive that may have the count 0 is of a handle that has ended.
-pub spent_here : (world : List HandleState) (from : ℕ) → may_count world (In from 4096) 0 ≡ true → HasEnded world from
-spent_here world from may = by-found (slice_get world from) refl may
+pub spent_here : (world : List HandleState) (room from : ℕ) → 1 ≤ room → may_count world (In from room) 0 ≡ true → HasEnded world from
+spent_here world room from some may = by-found (slice_get world from) refl may
   where
     no_bytes : (bytes : List ℕ) → length bytes ≡ 0 → bytes ≡ []
     no_bytes [] none = refl
     no_bytes (byte ∷ bytes) none = absurd cc
 
-    spent_of : (handle : HandleState) → gives_bytes handle.kind && may_read 4096 0 handle ≡ true
+    spent_of : (handle : HandleState) → gives_bytes handle.kind && may_read room 0 handle ≡ true
         → (handle.input ≡ []) × (handle.ended ≡ true)
     spent_of handle may =
         let none : length handle.input ≡ 0 = search (arith, nat_tests) in
@@ -101,7 +103,7 @@ spent_here world from may = by-found (slice_get world from) refl may
         (no_bytes handle.input none, ended)
 
     by-found : (found : Option HandleState) → slice_get world from ≡ found
-        → passes (λ handle. gives_bytes handle.kind && may_read 4096 0 handle) found ≡ true → HasEnded world from
+        → passes (λ handle. gives_bytes handle.kind && may_read room 0 handle) found ≡ true → HasEnded world from
     by-found None is may = absurd cc
     by-found (Some handle) is may = record { handle = handle; there = is; spent = λ stream. spent_of handle may }
 
@@ -118,6 +120,7 @@ same_handles old new same h = (
   λ going. subst (AreGoingBut h) (sym same) going,
 )
 
+-- One call that keeps what handles are follows another.
 pub streams_then : (old mid new : List HandleState) → KeepsStreams old mid → KeepsStreams mid new → KeepsStreams old new
 streams_then old mid new first second h = (
   λ stream. (second h).0 ((first h).0 stream),
@@ -137,6 +140,7 @@ marked_still old new conn keeps marked ending = elim (marked ending) [
   | inr ended ↦ inr (keeps (far_of conn) ended)
 ]
 
+-- So are all connections.
 pub all_still : (old new : List HandleState) (all : List Connection) → KeepsEnds old new → AreMarked old all → AreMarked new all
 all_still old new all keeps marked conn among = marked_still old new conn keeps (marked conn among)
 
@@ -144,6 +148,7 @@ all_still old new all keeps marked conn among = marked_still old new conn keeps 
 pub marked_kept : (old new : List HandleState) (conn : Connection) → KeepsStreams old new → IsMarked old conn → IsMarked new conn
 marked_kept old new conn keeps = marked_still old new conn (λ h. (keeps h).1)
 
+-- And all connections.
 pub all_marked : (old new : List HandleState) (all : List Connection) → KeepsStreams old new → AreMarked old all → AreMarked new all
 all_marked old new all keeps = all_still old new all (λ h. (keeps h).1)
 
@@ -194,10 +199,12 @@ set_marked old new all k conn now there keeps mine marked other among = elim (sa
   | inr e ↦ marked_kept old new other keeps (marked other (among.0, sym (get_set_other all k among.0 now e) ∙ among.1))
 ]
 
+-- So are those that are left once one is taken out.
 pub removed_marked : (world : List HandleState) (all : List Connection) (k : ℕ) → AreMarked world all → AreMarked world (remove all k)
 removed_marked world all k marked other among =
     marked other (placed k among.0, sym (get_removed all k among.0) ∙ among.1)
 
+-- And with one more that isn't ending.
 pub pushed_marked : (world : List HandleState) (all : List Connection) (conn : Connection) → conn.ending ≡ false → AreMarked world all
     → AreMarked world (all ++ conn ∷ [])
 pushed_marked world all conn going marked other among = elim (get_pushed all conn among.0 other among.1) [

@@ -1,6 +1,7 @@
 -- What became of the bytes of a receive and of a send that ended.
-use Rattle.std.proofs.Common.{ℕ, ◌≡◌, ◌∙◌, ◌≤◌, ap, sym, refl, subst, arith, Bool, IsTrue, true, false, List, [], ◌++◌, length}
-use Rattle.std.proofs.Common.{take, drop, Some, None, Ok, inr}
+use Rattle.std.proofs.Common.{ℕ, ◌≡◌, ◌∙◌, ◌-◌, ◌≤◌, ap, sym, refl, subst, arith, Bool, IsTrue, true, false, List, [], ◌++◌, length}
+use Rattle.std.proofs.Common.{take, drop, min, Some, None, Ok, inr}
+use Rattle.std.proofs.Math.Nat.{min-eq_left}
 use Rattle.std.proofs.lemmas.List.{append_assoc, length-take, take-append-drop, take-take, take_all}
 use Rattle.rent_buf.specs.Buf.{built, content_of}
 use Rattle.rent_buf.specs.Buffer.{Buffer, shown, stored}
@@ -8,23 +9,23 @@ use Rattle.rent_buf.specs.Counts.{Rose}
 use Rattle.rent_buf.specs.Parts.{Parts}
 use Rattle.rent_buf.specs.declared.held.Held.TheVariants.{One}
 use Rattle.rent_buf.specs.declared.plain.Buf.{Buf}
-use Rattle.ring_core.specs.declared.request.Outcome.{Outcome}
-use Rattle.ring_core.specs.declared.request.Outcome.TheVariants.{Count, From, Made, Fail}
-use Rattle.ring_core.specs.declared.request.Told.{Told}
-use Rattle.ring_core.specs.declared.request.Told.TheVariants as told
-use Rattle.ring_core.specs.declared.request.Request.{Request}
-use Rattle.ring_core.specs.declared.request.Request.TheVariants.{Recv, ReadVec, Send, WriteVec, RecvMsg, SendMsg, Read, Write}
-use Rattle.ring_core.specs.declared.request.Request.TheVariants.{SpliceTo, SpliceFrom, Accept, Open, Connect, Fsync, PollAdd, MkDir, Rename}
-use Rattle.ring_core.specs.declared.request.Request.TheVariants.{Unlink}
-use Rattle.ring_core.specs.declared.request.TheConstants.{MOST_ASKED}
-use Rattle.ring_core.specs.declared.world.HandleState.{HandleState}
-use Rattle.ring_core.specs.Effect.{made_by, with_sent, without_front}
-use Rattle.ring_core.specs.Lists.{amended}
-use Rattle.ring_core.specs.Outcome.{may_count}
-use Rattle.ring_core.specs.declared.request.Call.TheVariants.{In}
-use Rattle.ring_core.specs.Request.{held, held_of, plain_request, shape_of}
-use Rattle.ring_core.specs.World.{input_at}
-use Rattle.ring_core.specs.WorldCall.{call_effect}
+use Rattle.machine.specs.declared.request.Outcome.{Outcome}
+use Rattle.machine.specs.declared.request.Outcome.TheVariants.{Count, From, Made, Fail}
+use Rattle.machine.specs.declared.request.Told.{Told}
+use Rattle.machine.specs.declared.request.Told.TheVariants as told
+use Rattle.machine.specs.declared.request.Request.{Request}
+use Rattle.machine.specs.declared.request.Request.TheVariants.{Recv, ReadVec, Send, WriteVec, RecvMsg, SendMsg, Read, Write}
+use Rattle.machine.specs.declared.request.Request.TheVariants.{SpliceTo, SpliceFrom, Accept, Open, Connect, Fsync, PollAdd, MkDir, Rename}
+use Rattle.machine.specs.declared.request.Request.TheVariants.{Unlink}
+use Rattle.machine.specs.declared.request.TheConstants.{MOST_ASKED}
+use Rattle.machine.specs.declared.world.HandleState.{HandleState}
+use Rattle.machine.specs.Effect.{made_by, with_sent, without_front}
+use Rattle.machine.specs.Lists.{amended}
+use Rattle.machine.specs.Outcome.{may_count}
+use Rattle.machine.specs.declared.request.Call.TheVariants.{In}
+use Rattle.machine.specs.Request.{held, held_of, held_want, plain_request, shape_of}
+use Rattle.machine.specs.World.{input_at}
+use Rattle.machine.specs.WorldCall.{call_effect}
 use Rattle.driver_core.specs.declared.op.Done.{Done as Ended}
 use Rattle.driver_core.specs.declared.op.Op.{Op}
 use Rattle.driver_core.specs.declared.op.PollOp.TheVariants.{Ready}
@@ -41,7 +42,6 @@ use Rattle.driver_core.proofs.Rising.{rose-later}
 use Rattle.relay_net.specs.Flow.{IfAsked, IsLoad, IsPending, IsReceive, IsSend, asked_at, empty_buffer}
 use Rattle.relay_net.specs.Keeping.{HasEnded, KeepsUsers, world_of}
 use Rattle.relay_net.specs.Outcomes.{CountsLoad}
-use Rattle.relay_net.specs.declared.flow.TheConstants.{ROOM}
 use Rattle.relay_net.proofs.Calls.{Lawful}
 use Rattle.relay_net.proofs.Marks.{spent_here, taken_ended}
 use Rattle.relay_net.proofs.Polls.{Ends, ready_ends}
@@ -68,15 +68,20 @@ recv_holding h b (Rename from to) same held = absurd cc
 recv_holding h b (Unlink path remove_dir) same held = absurd cc
 
 -- The bytes that an empty buffer shows once some were stored that fit.
-stored_shows : (bytes : List ℕ) → length bytes ≤ 4096 → shown (stored empty_buffer bytes) ≡ bytes
-stored_shows bytes within = take_all 4096 bytes within
+stored_shows : (room : ℕ) (bytes : List ℕ) → length bytes ≤ room → shown (stored (empty_buffer room) bytes) ≡ bytes
+stored_shows room bytes within = take_all room bytes within
+
+-- A receive asks for its whole room.
+pub whole_room : (room : ℕ) → IsLoad room → held_want (One (empty_buffer room)) ≡ room
+whole_room room roomy =
+    let bare : room - 0 ≡ room = omega arith in ap (λ w. min w MOST_ASKED) bare ∙ min-eq_left roomy.1
 
 -- What a receive brought, by how its call ended.
 abbrev pub Brings : IoView → IoView → Bool → ℕ → Outcome → List ℕ → Type 0
-Brings old new tells from (Count k) bytes = (length bytes ≡ k) × (k ≤ ROOM) × (IsTrue tells
+Brings old new tells from (Count k) bytes = (length bytes ≡ k) × (k ≤ MOST_ASKED) × (IsTrue tells
     → (bytes ++ input_at new.world from ≡ input_at old.world from) × IsTaken old.world from new.world
     × (k ≡ 0 → HasEnded new.world from))
-Brings old new tells from (From k addr) bytes = (length bytes ≡ k) × (k ≤ ROOM) × (IsTrue tells
+Brings old new tells from (From k addr) bytes = (length bytes ≡ k) × (k ≤ MOST_ASKED) × (IsTrue tells
     → (bytes ++ input_at new.world from ≡ input_at old.world from) × IsTaken old.world from new.world
     × (k ≡ 0 → HasEnded new.world from))
 Brings old new tells from (Made h) bytes = ⊥
@@ -98,36 +103,39 @@ pub record Brought (old new : IoView) (tells : Bool) (from : ℕ) (call : Outcom
   pub brings : Brings old new tells from call (shown buf)
 
 -- Bytes that came are those that left the input.
-filled_moves : (k : ℕ) (old new : List HandleState) (from : ℕ) (bytes : List ℕ) (buf : Buffer) (now : Request Buffer Parts) (call : Outcome)
-    → length bytes ≡ k → k ≤ 4096 → shown buf ≡ bytes → now ≡ Recv from buf
+filled_moves : (room k : ℕ) (old new : List HandleState) (from : ℕ) (bytes : List ℕ) (buf : Buffer) (now : Request Buffer Parts)
+    (call : Outcome)
+    → IsLoad room → length bytes ≡ k → k ≤ room → shown buf ≡ bytes → now ≡ Recv from buf
     → ((e : ℕ) → call ≡ Fail e → ⊥) → ((j : ℕ) → call ≡ Count j → j ≡ k)
-    → IsMoved old (Recv from empty_buffer) new now call
+    → IsMoved old (Recv from (empty_buffer room)) new now call
     → (shown buf ++ input_at new from ≡ input_at old from) × IsTaken old from new × (k ≡ 0 → HasEnded new from)
-filled_moves k old new from bytes buf now call size within shows is sound counts moved = by-told moved.told refl
+filled_moves room k old new from bytes buf now call roomy size within shows is sound counts moved = by-told moved.told refl
   where
     by-told : (t : Told) → moved.told ≡ t
         → (shown buf ++ input_at new from ≡ input_at old from) × IsTaken old from new × (k ≡ 0 → HasEnded new from)
     by-told (told.Fail e) t = absurd (sound e (moved.outcome_is
-        ∙ ap (λ x. (call_effect old (Recv from empty_buffer) x).outcome) t))
+        ∙ ap (λ x. (call_effect old (Recv from (empty_buffer room)) x).outcome) t))
     by-told (told.Count j) t =
         let e : j ≡ k = counts j (moved.outcome_is
-        ∙ ap (λ x. (call_effect old (Recv from empty_buffer) x).outcome) t) in
+        ∙ ap (λ x. (call_effect old (Recv from (empty_buffer room)) x).outcome) t) in
         let fits = length-take j (input_at old from) in
-        let few : length (take j (input_at old from)) ≤ 4096 = omega (arith, fits, e, within) in
-        let holds : One buf ≡ One (stored empty_buffer (take j (input_at old from))) = sym (ap held_of is) ∙ (moved.holds.holds
-        ∙ ap (λ x. held (Recv from empty_buffer) x
-        (call_effect old (Recv from empty_buffer) x).got) t) in
-        let same : buf ≡ stored empty_buffer (take j (input_at old from)) = cc in
+        let few : length (take j (input_at old from)) ≤ room = omega (arith, fits, e, within) in
+        let holds : One buf ≡ One (stored (empty_buffer room) (take j (input_at old from))) = sym (ap held_of is) ∙ (moved.holds.holds
+        ∙ ap (λ x. held (Recv from (empty_buffer room)) x
+        (call_effect old (Recv from (empty_buffer room)) x).got) t) in
+        let same : buf ≡ stored (empty_buffer room) (take j (input_at old from)) = cc in
         let world : new ≡ amended old from (without_front j) = moved.world
-        ∙ ap (λ x. (call_effect old (Recv from empty_buffer) x).world) t in (
-          ap (λ bs. bs ++ input_at new from) (ap shown same ∙ stored_shows (take j (input_at old from)) few)
+        ∙ ap (λ x. (call_effect old (Recv from (empty_buffer room)) x).world) t in (
+          ap (λ bs. bs ++ input_at new from) (ap shown same ∙ stored_shows room (take j (input_at old from)) few)
               ∙ (ap (λ w. take j (input_at old from) ++ input_at w from) world
               ∙ (ap (λ rest. take j (input_at old from) ++ rest) (input_left j from old) ∙ take-append-drop j (input_at old from))),
           inr (j, world),
           λ none.
-              let may : MayEnd old (Recv from empty_buffer) (told.Count j) = subst (MayEnd old (Recv from empty_buffer)) t moved.may in
-              let nought : may_count old (In from 4096) 0 ≡ true = subst (λ n. may_count old (In from 4096) n ≡ true) (e ∙ none) may in
-              subst (λ w. HasEnded w from) (sym world) (taken_ended j old from (spent_here old from nought)),
+              let may : MayEnd old (Recv from (empty_buffer room)) (told.Count j) = subst
+              (MayEnd old (Recv from (empty_buffer room))) t moved.may in
+              let nought : may_count old (In from room) 0 ≡ true = subst (λ w. may_count old (In from w) 0 ≡ true) (whole_room room roomy)
+              (subst (MayEnd old (Recv from (empty_buffer room))) (ap told.Count (e ∙ none)) may) in
+              subst (λ w. HasEnded w from) (sym world) (taken_ended j old from (spent_here old room from roomy.0 nought)),
         )
 
 -- A call that failed moved nothing.
@@ -141,54 +149,59 @@ failed_unmoved old new request now error counts moved = by-told moved.told refl
     by-told (told.Fail e) t = moved.world ∙ ap (λ x. (call_effect old request x).world) t
 
 -- A call of a receive that ended so.
-recv_brought : (old new : IoView) (tells memory : Bool) (from : ℕ) (call : Outcome) (now : Request Buffer Parts)
-    → IsMade tells memory old (Recv from empty_buffer) new now call → EndsFor (Recv from empty_buffer) now call
-    → FailRose call old.fails new.fails → Brought old new tells from call now
-recv_brought old new tells memory from (Count k) now made ends rose =
+recv_brought : (old new : IoView) (tells memory : Bool) (room from : ℕ) (call : Outcome) (now : Request Buffer Parts)
+    → IsMade tells memory old (Recv from (empty_buffer room)) new now call → EndsFor (Recv from (empty_buffer room)) now call
+    → FailRose call old.fails new.fails → IsLoad room → Brought old new tells from call now
+recv_brought old new tells memory room from (Count k) now made ends rose roomy =
     let size = ends.count in
-    let wanted = ends.wanted in
-    let few : length ends.bytes ≤ 4096 = omega (arith, size, wanted) in
-    let within : k ≤ 4096 = omega (arith, size, few) in
-    let is = recv_holding from (stored empty_buffer ends.bytes) now ends.holds.shape ends.holds.holds in
-    let shows = stored_shows ends.bytes few in
+    let wanted : k ≤ room = subst (λ w. k ≤ w) (whole_room room roomy) ends.wanted in
+    let few : length ends.bytes ≤ room = omega (arith, size, wanted) in
+    let most = roomy.1 in
+    let within : k ≤ MOST_ASKED = omega (arith, wanted, most) in
+    let is = recv_holding from (stored (empty_buffer room) ends.bytes) now ends.holds.shape ends.holds.holds in
+    let shows = stored_shows room ends.bytes few in
     record {
-      buf = stored empty_buffer ends.bytes;
+      buf = stored (empty_buffer room) ends.bytes;
       request_is = is;
       unmade = refl;
       brings = (
         ap length shows ∙ size,
         within,
-        λ t. filled_moves k old.world new.world from ends.bytes (stored empty_buffer ends.bytes) now (Count k) size within shows is
+        λ t. filled_moves room k old.world new.world from ends.bytes (stored (empty_buffer room) ends.bytes) now (Count k) roomy size wanted
+            shows is
             (λ e same. absurd cc) (λ j same. cc) (made.moved t),
       );
     }
-recv_brought old new tells memory from (From k addr) now made ends rose =
+recv_brought old new tells memory room from (From k addr) now made ends rose roomy =
     let size = ends.count in
-    let wanted = ends.wanted in
-    let few : length ends.bytes ≤ 4096 = omega (arith, size, wanted) in
-    let within : k ≤ 4096 = omega (arith, size, few) in
-    let is = recv_holding from (stored empty_buffer ends.bytes) now ends.holds.shape ends.holds.holds in
-    let shows = stored_shows ends.bytes few in
+    let wanted : k ≤ room = subst (λ w. k ≤ w) (whole_room room roomy) ends.wanted in
+    let few : length ends.bytes ≤ room = omega (arith, size, wanted) in
+    let most = roomy.1 in
+    let within : k ≤ MOST_ASKED = omega (arith, wanted, most) in
+    let is = recv_holding from (stored (empty_buffer room) ends.bytes) now ends.holds.shape ends.holds.holds in
+    let shows = stored_shows room ends.bytes few in
     record {
-      buf = stored empty_buffer ends.bytes;
+      buf = stored (empty_buffer room) ends.bytes;
       request_is = is;
       unmade = refl;
       brings = (
         ap length shows ∙ size,
         within,
-        λ t. filled_moves k old.world new.world from ends.bytes (stored empty_buffer ends.bytes) now (From k addr) size within shows is
+        λ t. filled_moves room k old.world new.world from ends.bytes (stored (empty_buffer room) ends.bytes) now
+            (From k addr) roomy size wanted
+            shows is
             (λ e same. absurd cc) (λ j same. absurd cc) (made.moved t),
       );
     }
-recv_brought old new tells memory from (Made h) now made ends rose =
+recv_brought old new tells memory room from (Made h) now made ends rose roomy =
     let no : ◌≡◌ {A = Bool} false true = ends.0 in absurd cc
-recv_brought old new tells memory from (Fail error) now made ends rose = record {
-  buf = empty_buffer;
+recv_brought old new tells memory room from (Fail error) now made ends rose roomy = record {
+  buf = empty_buffer room;
   request_is = ends;
   unmade = refl;
   brings = (
     rose,
-    λ t. failed_unmoved old.world new.world (Recv from empty_buffer) now error (λ k same. absurd cc)
+    λ t. failed_unmoved old.world new.world (Recv from (empty_buffer room)) now error (λ k same. absurd cc)
         (made.moved t),
   );
 }
@@ -234,6 +247,7 @@ pub record Took (old new : IoView) (tells : Bool) (to : ℕ) (buf : Buffer) (cal
   pub unmade : made_by call ≡ None
   pub takes : Takes old new tells to call (shown buf)
 
+-- A send that was made took what it says from its buffer.
 send_took : (old new : IoView) (tells memory : Bool) (to : ℕ) (buf : Buffer) (call : Outcome) (now : Request Buffer Parts)
     → IsMade tells memory old (Send to buf) new now call → EndsFor (Send to buf) now call → FailRose call old.fails new.fails
     → Took old new tells to buf call now
@@ -281,6 +295,7 @@ brings_later old mid new tells from (Made h) bytes later world brings = brings
 brings_later old mid new tells from (Fail error) bytes later world brings =
     (rose-later old.fails mid.fails new.fails brings.0 later.fails, λ t. world t ∙ brings.1 t)
 
+-- What a send took it took still, behind calls that leave the world.
 takes_later : (old mid new : IoView) (tells : Bool) (to : ℕ) (call : Outcome) (bytes : List ℕ) → IsLater mid new
     → (IsTrue tells → new.world ≡ mid.world) → Takes old mid tells to call bytes → Takes old new tells to call bytes
 takes_later old mid new tells to (Count k) bytes later world takes = λ t. (
@@ -318,21 +333,24 @@ module _ {I : Type 0} (view : I → IoView) (tells memory : Bool) (files : I →
       }
 
   -- What a poll that returned a receive brought.
-  pub received : (old new : LegacyState I Buf) (op : Op) (done : Ended Buf) (task from : ℕ)
+  pub received : (old new : LegacyState I Buf) (op : Op) (done : Ended Buf) (task room from : ℕ)
       → LegacyPolls files built called view tells memory old new op task (Ok (Ready done))
-      → IsPending (ops_in old) op (IsReceive from)
+      → IsPending (ops_in old) op (IsReceive room from)
       → Brought (view old.handling.io) (view new.handling.io) tells from done.outcome (plain_request built done.request)
       × (IsLater (view old.handling.io) (view new.handling.io) × KeepsUsers old.handling.table new.handling.table)
-  received old new op done task from polls pending =
-      let ends = ready_ends view tells memory files called law old new op done task (IsReceive from) polls pending in
-      let is : ends.request ≡ Recv from empty_buffer = subst (λ asked. IfAsked asked (IsReceive from)) ends.asked pending.asks in
-      let made : IsMade tells memory (view old.handling.io) (Recv from empty_buffer) (view ends.mid.io) (plain_request built done.request)
+  received old new op done task room from polls pending =
+      let ends = ready_ends view tells memory files called law old new op done task (IsReceive room from) polls pending in
+      let own : IsReceive room from ends.request = subst (λ asked. IfAsked asked (IsReceive room from)) ends.asked pending.asks in
+      let is = own.request_is in
+      let made : IsMade tells memory (view old.handling.io) (Recv from (empty_buffer room)) (view ends.mid.io)
+      (plain_request built done.request)
       ends.call = subst (λ r. IsMade tells memory (view old.handling.io) r (view ends.mid.io) (plain_request built done.request)
       ends.call) is
       ends.made in
-      let brought = recv_brought (view old.handling.io) (view ends.mid.io) tells memory from ends.call (plain_request built done.request)
+      let brought = recv_brought (view old.handling.io) (view ends.mid.io) tells memory room from ends.call
+      (plain_request built done.request)
       made
-      made.ends made.fails in
+      made.ends made.fails own.roomy in
       let s = settles old new op done ends brought.unmade in (
         subst (λ o. Brought (view old.handling.io) (view new.handling.io) tells from o (plain_request built done.request)) (sym s.outcome)
             (record {
@@ -377,11 +395,11 @@ module _ {I : Type 0} (view : I → IoView) (tells memory : Bool) (files : I →
       )
 
   -- The bytes of a receive that came back are as many as it counts.
-  pub received_load : (old new : LegacyState I Buf) (op : Op) (done : Ended Buf) (task from : ℕ) (buf : Buf)
-      → LegacyPolls files built called view tells memory old new op task (Ok (Ready done)) → IsPending (ops_in old) op (IsReceive from)
+  pub received_load : (old new : LegacyState I Buf) (op : Op) (done : Ended Buf) (task room from : ℕ) (buf : Buf)
+      → LegacyPolls files built called view tells memory old new op task (Ok (Ready done)) → IsPending (ops_in old) op (IsReceive room from)
       → plain_request built done.request ≡ Recv from (built buf) → CountsLoad done.outcome (content_of buf)
-  received_load old new op done task from buf polls pending is =
-      let came = received old new op done task from polls pending in
+  received_load old new op done task room from buf polls pending is =
+      let came = received old new op done task room from polls pending in
       let same : Recv from came.0.buf ≡ Recv from (built buf) = sym came.0.request_is ∙ is in
       let e : came.0.buf ≡ built buf = cc in
       subst (λ b. CountsLoad done.outcome (shown b)) e

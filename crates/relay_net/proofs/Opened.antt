@@ -9,15 +9,15 @@ use Rattle.rent_buf.specs.Parts.{Parts}
 use Rattle.rent_buf.specs.declared.plain.Buf.{Buf}
 use Rattle.rent_buf.specs.declared.fault.OutOfMemory.{OutOfMemory as NoMemory}
 use Rattle.handle_core.specs.Table.{nobody}
-use Rattle.ring_core.specs.declared.entry.TheConstants.{MOST_HANDLES}
-use Rattle.ring_core.specs.World.{fresh}
-use Rattle.ring_core.specs.declared.request.Outcome.{Outcome}
-use Rattle.ring_core.specs.declared.request.Outcome.TheVariants as ended
-use Rattle.ring_core.specs.declared.request.Request.{Request}
-use Rattle.ring_core.specs.declared.request.Request.TheVariants.{Accept}
-use Rattle.ring_core.specs.declared.world.HandleKind.TheVariants.{Stream}
-use Rattle.ring_core.specs.Effect.{made_by}
-use Rattle.ring_core.specs.Request.{plain_request}
+use Rattle.machine.specs.declared.world.TheConstants.{MOST_HANDLES}
+use Rattle.machine.specs.World.{fresh}
+use Rattle.machine.specs.declared.request.Outcome.{Outcome}
+use Rattle.machine.specs.declared.request.Outcome.TheVariants as ended
+use Rattle.machine.specs.declared.request.Request.{Request}
+use Rattle.machine.specs.declared.request.Request.TheVariants.{Accept}
+use Rattle.machine.specs.declared.world.HandleKind.TheVariants.{Stream}
+use Rattle.machine.specs.Effect.{made_by}
+use Rattle.machine.specs.Request.{plain_request}
 use Rattle.driver_core.specs.Holds.{named_in}
 use Rattle.driver_core.specs.Op.{KeepsTokens, PollsTokens}
 use Rattle.driver_core.specs.declared.op.Done.{Done as Ended}
@@ -41,7 +41,7 @@ use Rattle.ready_driver.specs.LegacyState.{LegacyState, SameOps, ops_in}
 use Rattle.ready_driver.specs.LegacyTurns.{LegacyTurns, TurnsBy, turning_in}
 use Rattle.ready_driver.specs.Registry.{Handling, TriesFor, is_old}
 use Rattle.ready_driver.proofs.Still.{later-then, later-same}
-use Rattle.ring_core.specs.Attempt.{is_readable_at}
+use Rattle.machine.specs.Attempt.{is_readable_at}
 use Rattle.net_stream.specs.Told.{IsStream}
 use Rattle.op_driver.specs.Legacy.{LegacyDrops, LegacyPolls}
 use Rattle.relay_net.specs.Connection.{FitsConnection, Releases, KeepsStreams, far_of, held_back, held_forth, near_of}
@@ -227,10 +227,12 @@ accepted_for view old new listener (ended.Fail error) answer gives rises is =
     subst (AcceptedFor view old new listener) (sym is) (rises error refl)
 
 -- A fresh handle that was given up leaves all connections, and the accept.
-pub released_sound : {I : Type 0} (view : I → IoView) (tells : Bool) (old new : LegacyState I Buf) (listener : ℕ) (accept : Option Op)
+pub released_sound : {room : ℕ} {I : Type 0} (view : I → IoView) (tells : Bool) (old new : LegacyState I Buf) (listener : ℕ)
+    (accept : Option Op)
     (all : List Connection) (h : ℕ) → Releases view tells old h new → IsFresh old.handling.table listener all h
-    → IsSound (ops_in old) old.handling.table listener accept all → IsSound (ops_in new) new.handling.table listener accept all
+    → IsSound room (ops_in old) old.handling.table listener accept all → IsSound room (ops_in new) new.handling.table listener accept all
 released_sound view tells old new listener accept all h releases fresh sound = record {
+  roomy = sound.roomy;
   listens = releases.users listener (λ e. fresh.other (sym e)) sound.listens;
   accepts = by-accept accept sound.accepts;
   served = record {
@@ -240,6 +242,7 @@ released_sound view tells old new listener accept all h releases fresh sound = r
         record {
           fits = (connection_kept (ops_in old) (ops_in new) AnyRequest conn releases.ops (λ g own request is. tt)
               (λ g own count request is. tt) own.fits).fits;
+          room_is = own.room_is;
           near = releases.users (near_of conn) apart.0 own.near;
           far = releases.users (far_of conn) apart.1 own.far;
           near_other = own.near_other;
@@ -255,8 +258,10 @@ released_sound view tells old new listener accept all h releases fresh sound = r
         pending_kept (ops_in old) (ops_in new) op (IsAccept listener)
         (releases.ops op fits.holds (asked_as (asked_at (ops_in old) op) (IsAccept listener) AnyRequest (λ request is. tt) fits.asks)) fits
 
-pub released_opening : {I : Type 0} (view : I → IoView) (tells : Bool) (start old new : LegacyState I Buf) (was all : List Connection)
-    (listener h : ℕ) → Releases view tells old h new → AreServed (ops_in old) old.handling.table listener all
+-- Letting a handle go leaves what was opened.
+pub released_opening : {room : ℕ} {I : Type 0} (view : I → IoView) (tells : Bool) (start old new : LegacyState I Buf)
+    (was all : List Connection)
+    (listener h : ℕ) → Releases view tells old h new → AreServed room (ops_in old) old.handling.table listener all
     → Opening view tells start was old all → Opening view tells start was new all
 released_opening view tells start old new was all listener h releases served opening = record {
   each = λ conn among.
@@ -290,10 +295,12 @@ released_opening view tells start old new was all listener h releases served ope
 }
 
 -- The same connections are sound behind a call that moved no bytes, with an accept that fits.
-pub widens_sound : {I : Type 0} (view : I → IoView) (tells : Bool) (old new : LegacyState I Buf) (listener : ℕ) (before now : Option Op)
-    (all : List Connection) → IsSound (ops_in old) old.handling.table listener before all → Widens view tells old new
-    → FitsAccept (ops_in new) listener now → IsSound (ops_in new) new.handling.table listener now all
+pub widens_sound : {room : ℕ} {I : Type 0} (view : I → IoView) (tells : Bool) (old new : LegacyState I Buf) (listener : ℕ)
+    (before now : Option Op)
+    (all : List Connection) → IsSound room (ops_in old) old.handling.table listener before all → Widens view tells old new
+    → FitsAccept (ops_in new) listener now → IsSound room (ops_in new) new.handling.table listener now all
 widens_sound view tells old new listener before now all sound widens fits = record {
+  roomy = sound.roomy;
   listens = widens.users listener sound.listens;
   accepts = fits;
   served = widens_all view tells old new listener all widens sound.served;
@@ -334,6 +341,7 @@ opened_widens view tells memory old new h opened rest =
     by-taken true tries = (tries.0.later, tries.0.world)
     by-taken false tries = (tries.0.later, tries.0.world)
 
+-- A far end that was refused leaves the bytes and the users of the others.
 pub unopened_widens : {I : Type 0} (view : I → IoView) (tells memory : Bool) (old new : LegacyState I Buf) (why : NonBlockError)
     → IsUnopened view tells memory old.handling new.handling why → SameOps old new → Widens view tells old new
 unopened_widens view tells memory old new why unopened rest = record {
@@ -344,6 +352,7 @@ unopened_widens view tells memory old new why unopened rest = record {
   streams = λ t. same_handles (world_of view old) (world_of view new) (unopened.object.world t);
 }
 
+-- Why it was refused is a fault that was counted, or want of memory.
 pub unopened_fails : {I : Type 0} (view : I → IoView) (tells memory : Bool) (old new : Handling I) (why : NonBlockError)
     → IsUnopened view tells memory old new why → is_old old.table (view old.io).made ≡ false → FarFails (view old.io) (view new.io) why
 unopened_fails view tells memory old new (non_block.Fault code) unopened new_number = by-cause unopened.cause
@@ -366,9 +375,10 @@ none_widens view tells driver = record {
 }
 
 -- Connections are sound behind a call that leaves every operation.
-pub kept_sound : {I : Type 0} (view : I → IoView) (tells : Bool) (old new : LegacyState I Buf) (listener : ℕ) (accept : Option Op)
-    (all : List Connection) → IsSound (ops_in old) old.handling.table listener accept all → Widens view tells old new
-    → KeepsOps AnyRequest (ops_in old) (ops_in new) → IsSound (ops_in new) new.handling.table listener accept all
+pub kept_sound : {room : ℕ} {I : Type 0} (view : I → IoView) (tells : Bool) (old new : LegacyState I Buf) (listener : ℕ)
+    (accept : Option Op)
+    (all : List Connection) → IsSound room (ops_in old) old.handling.table listener accept all → Widens view tells old new
+    → KeepsOps AnyRequest (ops_in old) (ops_in new) → IsSound room (ops_in new) new.handling.table listener accept all
 kept_sound view tells old new listener accept all sound widens keeps =
     widens_sound view tells old new listener accept accept all sound widens (by-accept accept sound.accepts)
   where
@@ -379,28 +389,31 @@ kept_sound view tells old new listener accept all sound widens keeps =
         (keeps op fits.holds (asked_as (asked_at (ops_in old) op) (IsAccept listener) AnyRequest (λ request is. tt) fits.asks)) fits
 
 -- A connection joined the others, once its other end was there.
-pub opened_sound : {I : Type 0} (view : I → IoView) (tells : Bool) (old new : LegacyState I Buf) (listener : ℕ) (accept : Option Op)
-    (all : List Connection) (near far : ℕ) (conn : Connection) → IsSound (ops_in old) old.handling.table listener accept all
+pub opened_sound : {room : ℕ} {I : Type 0} (view : I → IoView) (tells : Bool) (old new : LegacyState I Buf) (listener : ℕ)
+    (accept : Option Op)
+    (all : List Connection) (near far : ℕ) (conn : Connection) → IsSound room (ops_in old) old.handling.table listener accept all
     → Widens view tells old new → KeepsOps AnyRequest (ops_in old) (ops_in new) → IsFresh old.handling.table listener all near
     → IsFar old.handling.table new.handling.table near far → (near_of conn ≡ near) × (far_of conn ≡ far)
-    → FitsConnection (ops_in new) conn → IsSound (ops_in new) new.handling.table listener accept (all ++ conn ∷ [])
-opened_sound view tells old new listener accept all near far conn sound widens keeps fresh is handles fits =
+    → FitsConnection (ops_in new) conn → conn.room ≡ room → IsSound room (ops_in new) new.handling.table listener accept (all ++ conn ∷ [])
+opened_sound view tells old new listener accept all near far conn sound widens keeps fresh is handles fits roomy =
     let same = kept_sound view tells old new listener accept all sound widens keeps in
     let near_fresh = fresh_kept old.handling.table new.handling.table listener all near widens.users fresh in
     let far_fresh = fresh_far (ops_in old) old.handling.table new.handling.table listener all near far sound.listens sound.served near_fresh
     is in
     record {
+      roomy = sound.roomy;
       listens = same.listens;
       accepts = same.accepts;
       served = fresh_pushed (ops_in new) new.handling.table listener all conn same.served
           (subst (IsFresh new.handling.table listener all) (sym handles.0) near_fresh)
-          (subst (IsFresh new.handling.table listener all) (sym handles.1) far_fresh) fits;
+          (subst (IsFresh new.handling.table listener all) (sym handles.1) far_fresh) fits roomy;
     }
 
 -- A submission leaves the connections.
-pub stays_sound : {I : Type 0} (view : I → IoView) (tells : Bool) (old new : LegacyState I Buf) (listener : ℕ) (accept : Option Op)
-    (all : List Connection) → IsSound (ops_in old) old.handling.table listener accept all → Stays view tells old new
-    → IsSound (ops_in new) new.handling.table listener accept all
+pub stays_sound : {room : ℕ} {I : Type 0} (view : I → IoView) (tells : Bool) (old new : LegacyState I Buf) (listener : ℕ)
+    (accept : Option Op)
+    (all : List Connection) → IsSound room (ops_in old) old.handling.table listener accept all → Stays view tells old new
+    → IsSound room (ops_in new) new.handling.table listener accept all
 stays_sound view tells old new listener accept all sound stays =
     kept_sound view tells old new listener accept all sound (stays_widens view tells old new stays) stays.ops
 

@@ -8,16 +8,16 @@ use Rattle.rent_buf.specs.Parts.{Parts}
 use Rattle.rent_buf.specs.declared.plain.Buf.{Buf}
 use Rattle.handle_core.specs.Table.{Table, by_user, nobody}
 use Rattle.handle_core.specs.declared.table.Holders.{Holders}
-use Rattle.ring_core.specs.declared.entry.TheConstants.{MOST_HANDLES}
-use Rattle.ring_core.specs.World.{fresh, input_at}
-use Rattle.ring_core.specs.WorldCall.{call_effect}
-use Rattle.ring_core.specs.declared.request.Outcome.{Outcome}
-use Rattle.ring_core.specs.declared.request.Told.{Told}
-use Rattle.ring_core.specs.declared.request.Told.TheVariants as told
-use Rattle.ring_core.specs.declared.request.Request.{Request}
-use Rattle.ring_core.specs.declared.request.Request.TheVariants.{Accept}
-use Rattle.ring_core.specs.declared.world.HandleKind.TheVariants.{Stream}
-use Rattle.ring_core.specs.declared.world.HandleState.{HandleState}
+use Rattle.machine.specs.declared.world.TheConstants.{MOST_HANDLES}
+use Rattle.machine.specs.World.{fresh, input_at}
+use Rattle.machine.specs.WorldCall.{call_effect}
+use Rattle.machine.specs.declared.request.Outcome.{Outcome}
+use Rattle.machine.specs.declared.request.Told.{Told}
+use Rattle.machine.specs.declared.request.Told.TheVariants as told
+use Rattle.machine.specs.declared.request.Request.{Request}
+use Rattle.machine.specs.declared.request.Request.TheVariants.{Accept}
+use Rattle.machine.specs.declared.world.HandleKind.TheVariants.{Stream}
+use Rattle.machine.specs.declared.world.HandleState.{HandleState}
 use Rattle.driver_core.specs.Ops.{Ops}
 use Rattle.driver_core.specs.declared.op.Turned.{Turned}
 use Rattle.driver_core.specs.declared.op.Stop.{Stop}
@@ -47,12 +47,14 @@ use Rattle.relay_net.proofs.Going.{appended_going, appended_listens}
 use Rattle.relay_net.proofs.Marks.{all_marked, appended_ended, marked_kept, pushed_marked, same_handles, streams_then}
 
 -- A receive, and a send, are transfers; an accept is none.
-pub receive_transfer : (h : ℕ) (request : Request Buffer Parts) → IsReceive h request → IsTransfer request
-receive_transfer h request is = subst IsTransfer (sym is) tt
+pub receive_transfer : (room h : ℕ) (request : Request Buffer Parts) → IsReceive room h request → IsTransfer request
+receive_transfer room h request is = subst IsTransfer (sym is.request_is) tt
 
+-- So is a send.
 pub send_transfer : (h count : ℕ) (request : Request Buffer Parts) → IsSend h count request → IsTransfer request
 send_transfer h count request is = subst IsTransfer (sym is.request_is) tt
 
+-- An accept is none.
 pub accept_apart : (listener : ℕ) (request : Request Buffer Parts) → IsAccept listener request → IsTransfer request → ⊥
 accept_apart listener request is transfer = subst IsTransfer is transfer
 
@@ -65,6 +67,7 @@ appended_at [] (suc h) = inl refl
 appended_at (a ∷ world) zero = inl refl
 appended_at (a ∷ world) (suc h) = appended_at world h
 
+-- A handle more keeps the bytes of the others.
 pub appended_bytes : (world : List HandleState) → KeepsBytes world (world ++ fresh Stream ∷ [])
 appended_bytes world h = elim (appended_at world h) [
   | inl same ↦ (
@@ -79,6 +82,7 @@ appended_bytes world h = elim (appended_at world h) [
   )
 ]
 
+-- And what each of them is.
 pub appended_streams : (world : List HandleState) → KeepsStreams world (world ++ fresh Stream ∷ [])
 appended_streams world h = (
   λ stream. record {
@@ -137,10 +141,11 @@ module _ {I : Type 0} (view : I → IoView) (tells : Bool) where
   }
 
   -- A served connection is served still.
-  widens_served : (old new : LegacyState I Buf) (listener : ℕ) (conn : Connection) → Widens view tells old new
-      → IsServed (ops_in old) old.handling.table listener conn → IsServed (ops_in new) new.handling.table listener conn
+  widens_served : {room : ℕ} (old new : LegacyState I Buf) (listener : ℕ) (conn : Connection) → Widens view tells old new
+      → IsServed room (ops_in old) old.handling.table listener conn → IsServed room (ops_in new) new.handling.table listener conn
   widens_served old new listener conn widens served = record {
     fits = (kept-of old new conn widens.ops served.fits).fits;
+    room_is = served.room_is;
     near = widens.users (near_of conn) served.near;
     far = widens.users (far_of conn) served.far;
     near_other = served.near_other;
@@ -150,23 +155,23 @@ module _ {I : Type 0} (view : I → IoView) (tells : Bool) where
       kept-of : (old new : LegacyState I Buf) (conn : Connection) → KeepsOps IsTransfer (ops_in old) (ops_in new)
           → FitsConnection (ops_in old) conn → IsKept (ops_in old) (ops_in new) conn
       kept-of old new conn keeps fits =
-          connection_kept (ops_in old) (ops_in new) IsTransfer conn keeps (λ h own. receive_transfer h) (λ h own. send_transfer h) fits
+          connection_kept (ops_in old) (ops_in new) IsTransfer conn keeps (λ h own. receive_transfer _ h) (λ h own. send_transfer h) fits
 
-  pub widens_all : (old new : LegacyState I Buf) (listener : ℕ) (all : List Connection) → Widens view tells old new
-      → AreServed (ops_in old) old.handling.table listener all → AreServed (ops_in new) new.handling.table listener all
+  pub widens_all : {room : ℕ} (old new : LegacyState I Buf) (listener : ℕ) (all : List Connection) → Widens view tells old new
+      → AreServed room (ops_in old) old.handling.table listener all → AreServed room (ops_in new) new.handling.table listener all
   widens_all old new listener all widens served = record {
     each = λ k conn at. widens_served old new listener conn widens (served.each k conn at);
     apart = served.apart;
   }
 
   -- Each connection is open still, and has the bytes on their way that it had.
-  pub opening_widens : (start old new : LegacyState I Buf) (was all : List Connection) (listener : ℕ) → Widens view tells old new
-      → AreServed (ops_in old) old.handling.table listener all → Opening view tells start was old all
+  pub opening_widens : {room : ℕ} (start old new : LegacyState I Buf) (was all : List Connection) (listener : ℕ) → Widens view tells old new
+      → AreServed room (ops_in old) old.handling.table listener all → Opening view tells start was old all
       → Opening view tells start was new all
   opening_widens start old new was all listener widens served opening = record {
     each = λ conn among.
         let still = opening.each conn among in
-        let kept = connection_kept (ops_in old) (ops_in new) IsTransfer still.now widens.ops (λ h own. receive_transfer h)
+        let kept = connection_kept (ops_in old) (ops_in new) IsTransfer still.now widens.ops (λ h own. receive_transfer _ h)
         (λ h own. send_transfer h) (served.each still.place still.now still.there).fits in
         record {
           place = still.place;
@@ -243,13 +248,13 @@ module _ {I : Type 0} (view : I → IoView) (tells : Bool) where
       none_lost lost k at = absurd cc
 
 -- A connection that has no handle of the others joins them.
-pub served_pushed : (ops : Ops Buf) (table : Table) (listener : ℕ) (all : List Connection) (conn : Connection)
-    → AreServed ops table listener all → IsServed ops table listener conn
-    → ((one : Connection) → IsAmong all one → AreBeside one conn) → AreServed ops table listener (all ++ conn ∷ [])
+pub served_pushed : {room : ℕ} (ops : Ops Buf) (table : Table) (listener : ℕ) (all : List Connection) (conn : Connection)
+    → AreServed room ops table listener all → IsServed room ops table listener conn
+    → ((one : Connection) → IsAmong all one → AreBeside one conn) → AreServed room ops table listener (all ++ conn ∷ [])
 served_pushed ops table listener all conn served new beside = record {
   each = λ k one at. elim (get_pushed all conn k one at) [
     | inl was ↦ served.each k one was
-    | inr is ↦ subst (IsServed ops table listener) (sym is.0) new
+    | inr is ↦ subst (IsServed _ ops table listener) (sym is.0) new
   ];
   apart = λ j k one other differ at_one at_other. elim (get_pushed all conn j one at_one) [
     | inl was ↦ elim (get_pushed all conn k other at_other) [
@@ -269,8 +274,8 @@ held_apart table h g held unheld same =
     let no : ◌≡◌ {A = Bool} true false = sym held ∙ (ap (is_users table) same ∙ unheld) in absurd cc
 
 -- A handle that the user got is fresh.
-pub fresh_new : (ops : Ops Buf) (old new : Table) (listener : ℕ) (all : List Connection) (h : ℕ) → is_users old listener ≡ true
-    → AreServed ops old listener all → IsNew old new h → IsFresh new listener all h
+pub fresh_new : {room : ℕ} (ops : Ops Buf) (old new : Table) (listener : ℕ) (all : List Connection) (h : ℕ) → is_users old listener ≡ true
+    → AreServed room ops old listener all → IsNew old new h → IsFresh new listener all h
 fresh_new ops old new listener all h listens served is = record {
   held = is.now;
   other = λ e. held_apart old listener h listens is.before (sym e);
@@ -285,19 +290,20 @@ pub fresh_kept : (old new : Table) (listener : ℕ) (all : List Connection) (h :
 fresh_kept old new listener all h keeps fresh = record { held = keeps h fresh.held; other = fresh.other; apart = fresh.apart }
 
 -- The other end is fresh, as the near one is.
-pub fresh_far : (ops : Ops Buf) (old new : Table) (listener : ℕ) (all : List Connection) (near far : ℕ) → is_users old listener ≡ true
-    → AreServed ops old listener all → IsFresh new listener all near → IsFar old new near far → IsFresh new listener all far
+pub fresh_far : {room : ℕ} (ops : Ops Buf) (old new : Table) (listener : ℕ) (all : List Connection) (near far : ℕ)
+    → is_users old listener ≡ true
+    → AreServed room ops old listener all → IsFresh new listener all near → IsFar old new near far → IsFresh new listener all far
 fresh_far ops old new listener all near far listens served fresh (inl same) =
     subst (IsFresh new listener all) (sym same) fresh
 fresh_far ops old new listener all near far listens served fresh (inr is) = fresh_new ops old new listener all far listens served is
 
 -- A connection of fresh handles joins the others.
-pub fresh_pushed : (ops : Ops Buf) (table : Table) (listener : ℕ) (all : List Connection) (conn : Connection)
-    → AreServed ops table listener all → IsFresh table listener all (near_of conn) → IsFresh table listener all (far_of conn)
-    → FitsConnection ops conn → AreServed ops table listener (all ++ conn ∷ [])
-fresh_pushed ops table listener all conn served near far fits =
+pub fresh_pushed : {room : ℕ} (ops : Ops Buf) (table : Table) (listener : ℕ) (all : List Connection) (conn : Connection)
+    → AreServed room ops table listener all → IsFresh table listener all (near_of conn) → IsFresh table listener all (far_of conn)
+    → FitsConnection ops conn → conn.room ≡ room → AreServed room ops table listener (all ++ conn ∷ [])
+fresh_pushed ops table listener all conn served near far fits roomy =
     served_pushed ops table listener all conn served
-    (record { fits = fits; near = near.held; far = far.held; near_other = near.other; far_other = far.other })
+    (record { fits = fits; room_is = roomy; near = near.held; far = far.held; near_other = near.other; far_other = far.other })
     (λ one among. record {
       near_near = (near.apart one among).0;
       near_far = (far.apart one among).0;

@@ -6,9 +6,9 @@ use Rattle.rent_buf.specs.Buffer.{Buffer, shown}
 use Rattle.rent_buf.specs.Parts.{Parts}
 use Rattle.rent_buf.specs.declared.plain.Buf.{Buf}
 use Rattle.rent_buf.specs.declared.fault.OutOfMemory.{OutOfMemory as NoMemory}
-use Rattle.ring_core.specs.declared.request.Request.{Request}
-use Rattle.ring_core.specs.declared.request.Request.TheVariants.{Recv, Send}
-use Rattle.ring_core.specs.Request.{plain_request}
+use Rattle.machine.specs.declared.request.Request.{Request}
+use Rattle.machine.specs.declared.request.Request.TheVariants.{Recv, Send}
+use Rattle.machine.specs.Request.{plain_request}
 use Rattle.std.specs.FinMap as map
 use Rattle.driver_core.proofs.Maps.{gone-other}
 use Rattle.driver_core.specs.Holds.{named_in}
@@ -40,18 +40,19 @@ use Rattle.relay_net.proofs.Flows.{brings_flow, just_fits, just_holds, receive_a
 module _ {I : Type 0} (view : I → IoView) (tells memory : Bool) (files : I → ℕ → Bool) (called : Called I)
     (law : Lawful view tells memory called) where
   -- A receive that waits on.
-  pub receive_pending : (old new : LegacyState I Buf) (op : Op) (task from to : ℕ)
+  pub receive_pending : (old new : LegacyState I Buf) (op : Op) (task room from to : ℕ)
       → LegacyPolls files built called view tells memory old new op task (Ok (Pending op)) → KeepsTokens (ops_in old) (ops_in new)
-      → IsPending (ops_in old) op (IsReceive from) → Flows view tells old new from to [] (stage.Receiving op) came.Goes
-  receive_pending old new op task from to polls keeps pending =
+      → IsPending (ops_in old) op (IsReceive room from) → Flows view tells old new room from to [] (stage.Receiving op) came.Goes
+  receive_pending old new op task room from to polls keeps pending =
       let waits = pending_waits view tells memory files called law old new op op task polls in
       record {
-        fits = pending_pends view tells memory files called law old new op op task (IsReceive from) polls keeps pending;
+        fits = pending_pends view tells memory files called law old new op op task (IsReceive room from) polls keeps pending;
         leaves = record {
           later = waits.later;
           users = waits.users;
-          ops = polled_others view tells memory files called law old new op task (Ok (Pending op)) (IsReceive from) (IsElse from to) polls
-              pending (receive_apart from to);
+          ops = polled_others view tells memory files called law old new op task (Ok (Pending op)) (IsReceive room from)
+              (IsElse from to) polls
+              pending (receive_apart room from to);
           moves = λ t. inl (inl (waits.world t));
         };
         line_is = λ t a b. same_line (world_of view old) (world_of view new) from to [] [] (waits.world t) refl;
@@ -60,19 +61,20 @@ module _ {I : Type 0} (view : I → IoView) (tells memory : Bool) (files : I →
       }
 
   -- One whose poll ran out of memory.
-  pub receive_starved : (old new : LegacyState I Buf) (op : Op) (error : NoMemory) (task from to : ℕ)
+  pub receive_starved : (old new : LegacyState I Buf) (op : Op) (error : NoMemory) (task room from to : ℕ)
       → LegacyPolls files built called view tells memory old new op task (Err (error, op)) → KeepsTokens (ops_in old) (ops_in new)
-      → IsPending (ops_in old) op (IsReceive from)
-      → Flows view tells old new from to [] (stage.Receiving op) (came.Stopped why.OutOfMemory)
-  receive_starved old new op error task from to polls keeps pending =
+      → IsPending (ops_in old) op (IsReceive room from)
+      → Flows view tells old new room from to [] (stage.Receiving op) (came.Stopped why.OutOfMemory)
+  receive_starved old new op error task room from to polls keeps pending =
       let waits = starved_waits view tells memory files called law old new op (error, op) task polls in
       record {
-        fits = starved_pends view tells memory files called law old new op (error, op) task (IsReceive from) polls keeps pending;
+        fits = starved_pends view tells memory files called law old new op (error, op) task (IsReceive room from) polls keeps pending;
         leaves = record {
           later = waits.later;
           users = waits.users;
-          ops = polled_others view tells memory files called law old new op task (Err (error, op)) (IsReceive from) (IsElse from to) polls
-              pending (receive_apart from to);
+          ops = polled_others view tells memory files called law old new op task (Err (error, op)) (IsReceive room from)
+              (IsElse from to) polls
+              pending (receive_apart room from to);
           moves = λ t. inl (inl (waits.world t));
         };
         line_is = λ t a b. same_line (world_of view old) (world_of view new) from to [] [] (waits.world t) refl;
@@ -81,22 +83,23 @@ module _ {I : Type 0} (view : I → IoView) (tells memory : Bool) (files : I →
       }
 
   -- One that ended.
-  pub receive_ended : (old new : LegacyState I Buf) (op : Op) (done : Ended Buf) (task from to : ℕ) (buf : Buf) (s : Stage) (c : Came)
+  pub receive_ended : (old new : LegacyState I Buf) (op : Op) (done : Ended Buf) (task room from to : ℕ) (buf : Buf) (s : Stage) (c : Came)
       → LegacyPolls files built called view tells memory old new op task (Ok (Ready done))
-      → IsPending (ops_in old) op (IsReceive from) → plain_request built done.request ≡ Recv from (built buf)
-      → ReceivedAs done.outcome (content_of buf) s c → Flows view tells old new from to [] s c
-  receive_ended old new op done task from to buf s c polls pending is ends =
-      let came = received view tells memory files called law old new op done task from polls pending in
+      → IsPending (ops_in old) op (IsReceive room from) → plain_request built done.request ≡ Recv from (built buf)
+      → ReceivedAs done.outcome (content_of buf) s c → Flows view tells old new room from to [] s c
+  receive_ended old new op done task room from to buf s c polls pending is ends =
+      let came = received view tells memory files called law old new op done task room from polls pending in
       let same : built buf ≡ came.0.buf = recv_same from (built buf) came.0.buf (sym is ∙ came.0.request_is) in
       let flow = brings_flow (view old.handling.io) (view new.handling.io) tells from to done.outcome (content_of buf) s c
       (subst (λ b. Brings (view old.handling.io) (view new.handling.io) tells from done.outcome (shown b)) (sym same) came.0.brings) ends in
       record {
-        fits = just_fits (ops_in new) from to s flow.0 flow.1.0;
+        fits = just_fits room (ops_in new) from to s flow.0 flow.1.0;
         leaves = record {
           later = came.1.0;
           users = came.1.1;
-          ops = polled_others view tells memory files called law old new op task (Ok (Ready done)) (IsReceive from) (IsElse from to) polls
-              pending (receive_apart from to);
+          ops = polled_others view tells memory files called law old new op task (Ok (Ready done)) (IsReceive room from)
+              (IsElse from to) polls
+              pending (receive_apart room from to);
           moves = flow.1.2;
         };
         line_is = λ t a b. ap (line (world_of view new) from to) (just_holds (ops_in new) s flow.0 flow.1.0) ∙ flow.1.1 t;
@@ -108,11 +111,11 @@ module _ {I : Type 0} (view : I → IoView) (tells memory : Bool) (files : I →
       recv_same h one other same = cc
 
   -- A send that waits on.
-  pub send_pending : (old new : LegacyState I Buf) (op : Op) (task from to count : ℕ)
+  pub send_pending : (old new : LegacyState I Buf) (op : Op) (task room from to count : ℕ)
       → LegacyPolls files built called view tells memory old new op task (Ok (Pending op)) → KeepsTokens (ops_in old) (ops_in new)
       → IsPending (ops_in old) op (IsSend to count)
-      → Flows view tells old new from to (bytes_sent (asked_at (ops_in old) op)) (stage.Sending op count) came.Goes
-  send_pending old new op task from to count polls keeps pending =
+      → Flows view tells old new room from to (bytes_sent (asked_at (ops_in old) op)) (stage.Sending op count) came.Goes
+  send_pending old new op task room from to count polls keeps pending =
       let waits = pending_waits view tells memory files called law old new op op task polls in
       record {
         fits = pending_pends view tells memory files called law old new op op task (IsSend to count) polls keeps pending;
@@ -129,12 +132,12 @@ module _ {I : Type 0} (view : I → IoView) (tells memory : Bool) (files : I →
         ended = λ t. tt;
       }
 
-  pub send_starved : (old new : LegacyState I Buf) (op : Op) (error : NoMemory) (task from to count : ℕ)
+  pub send_starved : (old new : LegacyState I Buf) (op : Op) (error : NoMemory) (task room from to count : ℕ)
       → LegacyPolls files built called view tells memory old new op task (Err (error, op)) → KeepsTokens (ops_in old) (ops_in new)
       → IsPending (ops_in old) op (IsSend to count)
-      → Flows view tells old new from to (bytes_sent (asked_at (ops_in old) op)) (stage.Sending op count)
+      → Flows view tells old new room from to (bytes_sent (asked_at (ops_in old) op)) (stage.Sending op count)
       (came.Stopped why.OutOfMemory)
-  send_starved old new op error task from to count polls keeps pending =
+  send_starved old new op error task room from to count polls keeps pending =
       let waits = starved_waits view tells memory files called law old new op (error, op) task polls in
       record {
         fits = starved_pends view tells memory files called law old new op (error, op) task (IsSend to count) polls keeps pending;
@@ -152,18 +155,19 @@ module _ {I : Type 0} (view : I → IoView) (tells memory : Bool) (files : I →
       }
 
   -- One that ended.
-  pub send_ended : (old new : LegacyState I Buf) (op : Op) (done : Ended Buf) (task from to count : ℕ) (buf : Buf) (s : Stage) (c : Came)
+  pub send_ended : (old new : LegacyState I Buf) (op : Op) (done : Ended Buf) (task room from to count : ℕ) (buf : Buf) (s : Stage)
+      (c : Came)
       → LegacyPolls files built called view tells memory old new op task (Ok (Ready done))
       → IsPending (ops_in old) op (IsSend to count) → plain_request built done.request ≡ Send to (built buf)
-      → SentAs done.outcome (content_of buf) s c → Flows view tells old new from to (bytes_sent (asked_at (ops_in old) op)) s c
-  send_ended old new op done task from to count buf s c polls pending is ends =
+      → SentAs done.outcome (content_of buf) s c → Flows view tells old new room from to (bytes_sent (asked_at (ops_in old) op)) s c
+  send_ended old new op done task room from to count buf s c polls pending is ends =
       let went = sent view tells memory files called law old new op done task to count polls pending in
       let took = went.1.1 in
       let same : built buf ≡ went.0 = send_same to (built buf) went.0 (sym is ∙ took.request_is) in
       let flow = takes_flow (view old.handling.io) (view new.handling.io) tells from to done.outcome (content_of buf) s c
       (subst (λ b. Takes (view old.handling.io) (view new.handling.io) tells to done.outcome (shown b)) (sym same) took.takes) ends in
       record {
-        fits = just_fits (ops_in new) from to s flow.0 flow.1.0;
+        fits = just_fits room (ops_in new) from to s flow.0 flow.1.0;
         leaves = record {
           later = went.1.2.0;
           users = went.1.2.1;
@@ -181,45 +185,45 @@ module _ {I : Type 0} (view : I → IoView) (tells memory : Bool) (files : I →
       send_same h one other same = cc
 
   -- The same of the token that came back.
-  pub receive_waits : (old new : LegacyState I Buf) (op back : Op) (answer : PollOp Buf) (task from to : ℕ) → answer ≡ Pending back
+  pub receive_waits : (old new : LegacyState I Buf) (op back : Op) (answer : PollOp Buf) (task room from to : ℕ) → answer ≡ Pending back
       → LegacyPolls files built called view tells memory old new op task (Ok answer)
-      → PollsTokens (ops_in old) (ops_in new) op answer → IsPending (ops_in old) op (IsReceive from)
-      → Flows view tells old new from to [] (stage.Receiving back) came.Goes
-  receive_waits old new op back answer task from to is polls took pending =
+      → PollsTokens (ops_in old) (ops_in new) op answer → IsPending (ops_in old) op (IsReceive room from)
+      → Flows view tells old new room from to [] (stage.Receiving back) came.Goes
+  receive_waits old new op back answer task room from to is polls took pending =
       let tokens = subst (PollsTokens (ops_in old) (ops_in new) op) is took in
-      subst (λ b. Flows view tells old new from to [] (stage.Receiving b) came.Goes) (sym tokens.0)
-      (receive_pending old new op task from to
+      subst (λ b. Flows view tells old new room from to [] (stage.Receiving b) came.Goes) (sym tokens.0)
+      (receive_pending old new op task room from to
       (subst (λ b. LegacyPolls files built called view tells memory old new op task (Ok (Pending b))) tokens.0
       (subst (λ a. LegacyPolls files built called view tells memory old new op task (Ok a)) is polls)) tokens.1 pending)
 
-  pub receive_stops : (old new : LegacyState I Buf) (op back : Op) (error : NoMemory) (task from to : ℕ)
+  pub receive_stops : (old new : LegacyState I Buf) (op back : Op) (error : NoMemory) (task room from to : ℕ)
       → LegacyPolls files built called view tells memory old new op task (Err (error, back))
-      → (back ≡ op) × KeepsTokens (ops_in old) (ops_in new) → IsPending (ops_in old) op (IsReceive from)
-      → Flows view tells old new from to [] (stage.Receiving back) (came.Stopped why.OutOfMemory)
-  receive_stops old new op back error task from to polls tokens pending =
-      subst (λ b. Flows view tells old new from to [] (stage.Receiving b) (came.Stopped why.OutOfMemory)) (sym tokens.0)
-      (receive_starved old new op error task from to
+      → (back ≡ op) × KeepsTokens (ops_in old) (ops_in new) → IsPending (ops_in old) op (IsReceive room from)
+      → Flows view tells old new room from to [] (stage.Receiving back) (came.Stopped why.OutOfMemory)
+  receive_stops old new op back error task room from to polls tokens pending =
+      subst (λ b. Flows view tells old new room from to [] (stage.Receiving b) (came.Stopped why.OutOfMemory)) (sym tokens.0)
+      (receive_starved old new op error task room from to
       (subst (λ b. LegacyPolls files built called view tells memory old new op task (Err (error, b))) tokens.0 polls) tokens.1 pending)
 
-  pub send_waits : (old new : LegacyState I Buf) (op back : Op) (answer : PollOp Buf) (task from to count : ℕ) → answer ≡ Pending back
+  pub send_waits : (old new : LegacyState I Buf) (op back : Op) (answer : PollOp Buf) (task room from to count : ℕ) → answer ≡ Pending back
       → LegacyPolls files built called view tells memory old new op task (Ok answer)
       → PollsTokens (ops_in old) (ops_in new) op answer → IsPending (ops_in old) op (IsSend to count)
-      → Flows view tells old new from to (bytes_sent (asked_at (ops_in old) op)) (stage.Sending back count) came.Goes
-  send_waits old new op back answer task from to count is polls took pending =
+      → Flows view tells old new room from to (bytes_sent (asked_at (ops_in old) op)) (stage.Sending back count) came.Goes
+  send_waits old new op back answer task room from to count is polls took pending =
       let tokens = subst (PollsTokens (ops_in old) (ops_in new) op) is took in
-      subst (λ b. Flows view tells old new from to (bytes_sent (asked_at (ops_in old) op)) (stage.Sending b count) came.Goes)
-      (sym tokens.0) (send_pending old new op task from to count
+      subst (λ b. Flows view tells old new room from to (bytes_sent (asked_at (ops_in old) op)) (stage.Sending b count) came.Goes)
+      (sym tokens.0) (send_pending old new op task room from to count
       (subst (λ b. LegacyPolls files built called view tells memory old new op task (Ok (Pending b))) tokens.0
       (subst (λ a. LegacyPolls files built called view tells memory old new op task (Ok a)) is polls)) tokens.1 pending)
 
-  pub send_stops : (old new : LegacyState I Buf) (op back : Op) (error : NoMemory) (task from to count : ℕ)
+  pub send_stops : (old new : LegacyState I Buf) (op back : Op) (error : NoMemory) (task room from to count : ℕ)
       → LegacyPolls files built called view tells memory old new op task (Err (error, back))
       → (back ≡ op) × KeepsTokens (ops_in old) (ops_in new) → IsPending (ops_in old) op (IsSend to count)
-      → Flows view tells old new from to (bytes_sent (asked_at (ops_in old) op)) (stage.Sending back count)
+      → Flows view tells old new room from to (bytes_sent (asked_at (ops_in old) op)) (stage.Sending back count)
       (came.Stopped why.OutOfMemory)
-  send_stops old new op back error task from to count polls tokens pending =
-      subst (λ b. Flows view tells old new from to (bytes_sent (asked_at (ops_in old) op)) (stage.Sending b count)
-      (came.Stopped why.OutOfMemory)) (sym tokens.0) (send_starved old new op error task from to count
+  send_stops old new op back error task room from to count polls tokens pending =
+      subst (λ b. Flows view tells old new room from to (bytes_sent (asked_at (ops_in old) op)) (stage.Sending b count)
+      (came.Stopped why.OutOfMemory)) (sym tokens.0) (send_starved old new op error task room from to count
       (subst (λ b. LegacyPolls files built called view tells memory old new op task (Err (error, b))) tokens.0 polls) tokens.1 pending)
 
 -- A drop leaves all but its operation.
@@ -236,6 +240,7 @@ dropped_abandons view tells memory old new op from to P drops pending apart = re
   made = drops.handles.object.made;
 }
 
+-- Giving nothing up leaves all as it was.
 pub still_abandons : {I : Type 0} (view : I → IoView) (tells : Bool) (driver : LegacyState I Buf) (from to : ℕ)
     → Abandons view tells driver from to driver
 still_abandons view tells driver from to = record {

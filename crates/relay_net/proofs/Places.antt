@@ -24,6 +24,7 @@ placed zero j = suc j
 placed (suc k) zero = zero
 placed (suc k) (suc j) = suc (placed k j)
 
+-- What is left stands there.
 pub get_removed : {X : Type 0} (xs : List X) (k j : ℕ) → slice_get (remove xs k) j ≡ slice_get xs (placed k j)
 get_removed [] zero j = refl
 get_removed [] (suc k) zero = refl
@@ -32,11 +33,13 @@ get_removed (a ∷ xs) zero j = refl
 get_removed (a ∷ xs) (suc k) zero = refl
 get_removed (a ∷ xs) (suc k) (suc j) = get_removed xs k j
 
+-- None of these places is the one that was taken out.
 pub placed_other : (k j : ℕ) → placed k j ≢ k
 placed_other zero j same = absurd cc
 placed_other (suc k) zero same = absurd cc
 placed_other (suc k) (suc j) same = placed_other k j (let e : placed k j ≡ k = cc in e)
 
+-- No two of them are the same.
 pub placed_differ : (k i j : ℕ) → i ≢ j → placed k i ≢ placed k j
 placed_differ zero i j differ same = differ (let e : i ≡ j = cc in e)
 placed_differ (suc k) zero zero differ same = differ refl

@@ -9,10 +9,10 @@ use Rattle.rent_buf.specs.declared.plain.Buf.{Buf}
 use Rattle.rent_buf.specs.declared.fault.OutOfMemory.{OutOfMemory as NoMemory}
 use Rattle.op_slots.specs.declared.lifecycle.Lifecycle.{Lifecycle}
 use Rattle.op_slots.specs.declared.lifecycle.Lifecycle.TheVariants.{Submitted, Waiting, Ignored, Completed}
-use Rattle.ring_core.specs.declared.request.Outcome.{Outcome}
-use Rattle.ring_core.specs.declared.request.Request.{Request}
-use Rattle.ring_core.specs.Effect.{made_by}
-use Rattle.ring_core.specs.Request.{named, plain_request}
+use Rattle.machine.specs.declared.request.Outcome.{Outcome}
+use Rattle.machine.specs.declared.request.Request.{Request}
+use Rattle.machine.specs.Effect.{made_by}
+use Rattle.machine.specs.Request.{named, plain_request}
 use Rattle.driver_core.specs.Holds.{unheld_by, without_ops}
 use Rattle.driver_core.specs.Op.{KeepsTokens}
 use Rattle.driver_core.specs.Ops.{Ops}

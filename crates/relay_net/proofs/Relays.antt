@@ -7,9 +7,9 @@ use Rattle.std.specs.List.{remove}
 use Rattle.rent_buf.specs.Counts.{Rose}
 use Rattle.rent_buf.specs.declared.plain.Buf.{Buf}
 use Rattle.handle_core.specs.Table.{Table}
-use Rattle.ring_core.specs.World.{input_at}
-use Rattle.ring_core.proofs.Numbers.{same-or-not}
-use Rattle.ring_core.proofs.Appended.{get-append-end}
+use Rattle.machine.specs.World.{input_at}
+use Rattle.machine.proofs.Numbers.{same-or-not}
+use Rattle.machine.proofs.Appended.{get-append-end}
 use Rattle.driver_core.specs.Ops.{Ops}
 use Rattle.driver_core.specs.declared.op.Op.{Op}
 use Rattle.ready_driver.specs.Io.{IoView, IsLater}
@@ -39,11 +39,13 @@ use Rattle.relay_net.proofs.Beside.{accept_outside, beside_same, beside_swap, by
 
 module _ {I : Type 0} (view : I → IoView) (tells : Bool) where
   -- A served connection beside the one that a call is about is served still.
-  served_beside : (old new : LegacyState I Buf) (near far listener : ℕ) (conn : Connection) → LeavesConnection view tells old near far new
-      → IsApartFrom conn near far → IsServed (ops_in old) old.handling.table listener conn
-      → IsServed (ops_in new) new.handling.table listener conn
+  served_beside : {room : ℕ} (old new : LegacyState I Buf) (near far listener : ℕ) (conn : Connection)
+      → LeavesConnection view tells old near far new
+      → IsApartFrom conn near far → IsServed room (ops_in old) old.handling.table listener conn
+      → IsServed room (ops_in new) new.handling.table listener conn
   served_beside old new near far listener conn leaves apart served = record {
     fits = (outside_kept (ops_in old) (ops_in new) near far conn leaves.ops apart served.fits).fits;
+    room_is = served.room_is;
     near = leaves.users (near_of conn) served.near;
     far = leaves.users (far_of conn) served.far;
     near_other = served.near_other;
@@ -61,25 +63,28 @@ module _ {I : Type 0} (view : I → IoView) (tells : Bool) where
       fits
 
   -- All connections are served once one of them had its round.
-  pub sound_set : (old new : LegacyState I Buf) (listener : ℕ) (accept : Option Op) (all : List Connection) (k : ℕ) (conn now : Connection)
-      (answer : Served) → IsSound (ops_in old) old.handling.table listener accept all → slice_get all k ≡ Some conn
+  pub sound_set : {room : ℕ} (old new : LegacyState I Buf) (listener : ℕ) (accept : Option Op) (all : List Connection) (k : ℕ)
+      (conn now : Connection)
+      (answer : Served) → IsSound room (ops_in old) old.handling.table listener accept all → slice_get all k ≡ Some conn
       → Serves view tells old new conn now answer
-      → IsSound (ops_in new) new.handling.table listener accept (slice_set all k now)
+      → IsSound room (ops_in new) new.handling.table listener accept (slice_set all k now)
   sound_set old new listener accept all k conn now answer sound there serves =
       let near = near_of conn in
       let far = far_of conn in
       let served = sound.served in
       let mine = served.each k conn there in
       record {
+        roomy = sound.roomy;
         listens = serves.leaves.users listener sound.listens;
         accepts = accept_beside (ops_in old) (ops_in new) near far listener accept serves.leaves.ops sound.accepts;
         served = record {
           each = λ j other at. elim (same-or-not j k) [
-            | inl e ↦ subst (IsServed (ops_in new) new.handling.table listener)
+            | inl e ↦ subst (IsServed _ (ops_in new) new.handling.table listener)
                 (found_same (slice_get (slice_set all k now) j) now other
                 (ap (slice_get (slice_set all k now)) e ∙ get_set all k conn now there) at)
                 (record {
                   fits = serves.fits;
+                  room_is = serves.room ∙ mine.room_is;
                   near = ap (is_users new.handling.table) serves.near ∙ serves.leaves.users near mine.near;
                   far = ap (is_users new.handling.table) serves.far ∙ serves.leaves.users far mine.far;
                   near_other = λ same. mine.near_other (sym serves.near ∙ same);
@@ -109,9 +114,10 @@ module _ {I : Type 0} (view : I → IoView) (tells : Bool) where
       }
 
   -- What became of a connection beside another one's round, or of the one that had it.
-  becomes_set : (start old new : LegacyState I Buf) (was conn now : Connection) (answer : Served) (all : List Connection) (k : ℕ)
+  becomes_set : {room : ℕ} (start old new : LegacyState I Buf) (was conn now : Connection) (answer : Served) (all : List Connection) (k : ℕ)
       (closed : List ℕ) (failed : List Lost) (listener : ℕ) → (IsTrue tells → KeepsStreams (world_of view start) (world_of view old))
-      → AreServed (ops_in old) old.handling.table listener all → slice_get all k ≡ Some conn → Serves view tells old new conn now answer
+      → AreServed room (ops_in old) old.handling.table listener all → slice_get all k ≡ Some conn
+      → Serves view tells old new conn now answer
       → Becomes view tells start was old all closed failed → Becomes view tells start was new (slice_set all k now) closed failed
   becomes_set start old new was conn now answer all k closed failed listener streams served there serves (inl still) =
       elim (same-or-not still.place k) [
@@ -202,9 +208,10 @@ module _ {I : Type 0} (view : I → IoView) (tells : Bool) where
       })
 
   -- The same of all.
-  pub serving_set : (start old new : LegacyState I Buf) (was : List Connection) (conn now : Connection) (answer : Served)
+  pub serving_set : {room : ℕ} (start old new : LegacyState I Buf) (was : List Connection) (conn now : Connection) (answer : Served)
       (all : List Connection) (k : ℕ) (closed : List ℕ) (failed : List Lost) (listener : ℕ)
-      → AreServed (ops_in old) old.handling.table listener all → slice_get all k ≡ Some conn → Serves view tells old new conn now answer
+      → AreServed room (ops_in old) old.handling.table listener all → slice_get all k ≡ Some conn
+      → Serves view tells old new conn now answer
       → Serving view tells start was old all closed failed → Serving view tells start was new (slice_set all k now) closed failed
   serving_set start old new was conn now answer all k closed failed listener served there serves serving = record {
     each = λ one among. becomes_set start old new one conn now answer all k closed failed listener serving.streams served there serves
@@ -220,14 +227,16 @@ module _ {I : Type 0} (view : I → IoView) (tells : Bool) where
   }
 
   -- All others are served once one was taken out and ended.
-  pub sound_removed : (old new : LegacyState I Buf) (listener : ℕ) (accept : Option Op) (all : List Connection) (k : ℕ) (conn : Connection)
-      → IsSound (ops_in old) old.handling.table listener accept all → slice_get all k ≡ Some conn
+  pub sound_removed : {room : ℕ} (old new : LegacyState I Buf) (listener : ℕ) (accept : Option Op) (all : List Connection) (k : ℕ)
+      (conn : Connection)
+      → IsSound room (ops_in old) old.handling.table listener accept all → slice_get all k ≡ Some conn
       → EndsConnection view tells old (near_of conn) (far_of conn) new
-      → IsSound (ops_in new) new.handling.table listener accept (remove all k)
+      → IsSound room (ops_in new) new.handling.table listener accept (remove all k)
   sound_removed old new listener accept all k conn sound there ends =
       let served = sound.served in
       let mine = served.each k conn there in
       record {
+        roomy = sound.roomy;
         listens = ends.users listener (λ same. mine.near_other (sym same)) (λ same. mine.far_other (sym same)) sound.listens;
         accepts = accept_beside (ops_in old) (ops_in new) (near_of conn) (far_of conn) listener accept ends.ops sound.accepts;
         served = record {
@@ -237,6 +246,7 @@ module _ {I : Type 0} (view : I → IoView) (tells : Bool) where
               let own = served.each (placed k j) other was in
               record {
                 fits = (outside_kept (ops_in old) (ops_in new) (near_of conn) (far_of conn) other ends.ops apart own.fits).fits;
+                room_is = own.room_is;
                 near = ends.users (near_of other) apart.near_near apart.near_far own.near;
                 far = ends.users (far_of other) apart.far_near apart.far_far own.far;
                 near_other = own.near_other;
@@ -249,9 +259,10 @@ module _ {I : Type 0} (view : I → IoView) (tells : Bool) where
       }
 
   -- What becomes of one that was taken out and ended is this, and of the others what became of them.
-  becomes_removed : (start old new : LegacyState I Buf) (was conn : Connection) (all : List Connection) (k : ℕ) (closed later : List ℕ)
+  becomes_removed : {room : ℕ} (start old new : LegacyState I Buf) (was conn : Connection) (all : List Connection) (k : ℕ)
+      (closed later : List ℕ)
       (failed lost : List Lost) (listener : ℕ) → (IsTrue tells → KeepsStreams (world_of view start) (world_of view old))
-      → AreServed (ops_in old) old.handling.table listener all → slice_get all k ≡ Some conn
+      → AreServed room (ops_in old) old.handling.table listener all → slice_get all k ≡ Some conn
       → EndsConnection view tells old (near_of conn) (far_of conn) new
       → ((n : ℕ) → IsAmong closed n → IsAmong later n) → ((one : Lost) → IsAmong failed one → IsAmong lost one)
       → ((lines : KeepsLines tells (world_of view start) (world_of view new) (near_of was) (far_of was) (held_forth (ops_in start) was)
@@ -349,8 +360,9 @@ module _ {I : Type 0} (view : I → IoView) (tells : Bool) where
       })
 
   -- One that was over was taken out and ended: it is named as closed.
-  pub serving_closed : (start old new : LegacyState I Buf) (was : List Connection) (conn : Connection) (all : List Connection) (k : ℕ)
-      (closed : List ℕ) (failed : List Lost) (listener : ℕ) → AreServed (ops_in old) old.handling.table listener all
+  pub serving_closed : {room : ℕ} (start old new : LegacyState I Buf) (was : List Connection) (conn : Connection) (all : List Connection)
+      (k : ℕ)
+      (closed : List ℕ) (failed : List Lost) (listener : ℕ) → AreServed room (ops_in old) old.handling.table listener all
       → slice_get all k ≡ Some conn → EndsConnection view tells old (near_of conn) (far_of conn) new → IsOver (ops_in old) conn
       → Serving view tells start was old all closed failed
       → Serving view tells start was new (remove all k) (closed ++ near_of conn ∷ []) failed
@@ -379,8 +391,9 @@ module _ {I : Type 0} (view : I → IoView) (tells : Bool) where
   }
 
   -- One that failed was taken out and ended: it is named, with how much it holds.
-  pub serving_lost : (start old new : LegacyState I Buf) (was : List Connection) (conn : Connection) (all : List Connection) (k fault : ℕ)
-      (closed : List ℕ) (failed : List Lost) (lost : Lost) (listener : ℕ) → AreServed (ops_in old) old.handling.table listener all
+  pub serving_lost : {room : ℕ} (start old new : LegacyState I Buf) (was : List Connection) (conn : Connection) (all : List Connection)
+      (k fault : ℕ)
+      (closed : List ℕ) (failed : List Lost) (lost : Lost) (listener : ℕ) → AreServed room (ops_in old) old.handling.table listener all
       → slice_get all k ≡ Some conn → EndsConnection view tells old (near_of conn) (far_of conn) new
       → IsLostAs (ops_in old) conn fault lost → Rose (view start.handling.io).fails (view old.handling.io).fails
       → Serving view tells start was old all closed failed
@@ -415,15 +428,16 @@ stops_later old mid new (Err why.Fault) later stops = let more = later.faults in
 stops_later old mid new (Err why.OutOfMemory) later stops = tt
 
 -- The last connection of a list is served.
-pub served_last : (ops : Ops Buf) (table : Table) (listener : ℕ) (all rest : List Connection) (conn : Connection)
-    → all ≡ rest ++ conn ∷ [] → AreServed ops table listener all → IsServed ops table listener conn
+pub served_last : {room : ℕ} (ops : Ops Buf) (table : Table) (listener : ℕ) (all rest : List Connection) (conn : Connection)
+    → all ≡ rest ++ conn ∷ [] → AreServed room ops table listener all → IsServed room ops table listener conn
 served_last ops table listener all rest conn is served =
     served.each (length rest) conn (ap (λ xs. slice_get xs (length rest)) is ∙ get-append-end rest conn)
 
 -- The others are served once it was taken out and ended.
-pub served_rest : {I : Type 0} (view : I → IoView) (tells : Bool) (old new : LegacyState I Buf) (listener : ℕ) (all rest : List Connection)
-    (conn : Connection) → all ≡ rest ++ conn ∷ [] → AreServed (ops_in old) old.handling.table listener all
-    → EndsConnection view tells old (near_of conn) (far_of conn) new → AreServed (ops_in new) new.handling.table listener rest
+pub served_rest : {room : ℕ} {I : Type 0} (view : I → IoView) (tells : Bool) (old new : LegacyState I Buf) (listener : ℕ)
+    (all rest : List Connection)
+    (conn : Connection) → all ≡ rest ++ conn ∷ [] → AreServed room (ops_in old) old.handling.table listener all
+    → EndsConnection view tells old (near_of conn) (far_of conn) new → AreServed room (ops_in new) new.handling.table listener rest
 served_rest view tells old new listener all rest conn is served ends = record {
   each = λ k other at.
       let was = ap (λ xs. slice_get xs k) is ∙ get-front rest (conn ∷ []) k other at in
@@ -432,6 +446,7 @@ served_rest view tells old new listener all rest conn is served ends = record {
       let own = served.each k other was in
       record {
         fits = (outside_kept (ops_in old) (ops_in new) (near_of conn) (far_of conn) other ends.ops apart own.fits).fits;
+        room_is = own.room_is;
         near = ends.users (near_of other) apart.near_near apart.near_far own.near;
         far = ends.users (far_of other) apart.far_near apart.far_far own.far;
         near_other = own.near_other;

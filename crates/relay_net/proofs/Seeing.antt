@@ -11,19 +11,19 @@ use Rattle.rent_buf.specs.declared.fault.OutOfMemory.{OutOfMemory as NoMemory}
 use Rattle.rent_buf.specs.declared.plain.Buf.{Buf}
 use Rattle.handle_core.specs.Table.{Table}
 use Rattle.handle_core.specs.declared.table.Holders.{Holders}
-use Rattle.ring_core.specs.Attempt.{answer_if, attempt, is_readable, is_readable_at, readable_by_kind, reads_at_once}
-use Rattle.ring_core.specs.Effect.{sent_to_kind, with_sent, without_front}
-use Rattle.ring_core.specs.Lists.{amended, is_empty, passes}
-use Rattle.ring_core.specs.World.{fresh}
-use Rattle.ring_core.specs.declared.request.Call.TheVariants.{In, Accept}
-use Rattle.ring_core.specs.declared.request.Request.{Request}
-use Rattle.ring_core.specs.declared.request.Told.{Told}
-use Rattle.ring_core.specs.declared.request.Told.TheVariants.{Count, Fail}
-use Rattle.ring_core.specs.declared.world.HandleKind.TheVariants.{Stream}
-use Rattle.ring_core.specs.declared.world.HandleState.{HandleState}
-use Rattle.ring_core.specs.declared.world.call.TheConstants.{INVALID}
-use Rattle.ring_core.proofs.Amended.{get-amended, get-amended-other}
-use Rattle.ring_core.proofs.Numbers.{same-or-not}
+use Rattle.machine.specs.Attempt.{answer_if, attempt, is_readable, is_readable_at, readable_by_kind, reads_at_once}
+use Rattle.machine.specs.Effect.{sent_to_kind, with_sent, without_front}
+use Rattle.machine.specs.Lists.{amended, is_empty, passes}
+use Rattle.machine.specs.World.{fresh}
+use Rattle.machine.specs.declared.request.Call.TheVariants.{In, Accept}
+use Rattle.machine.specs.declared.request.Request.{Request}
+use Rattle.machine.specs.declared.request.Told.{Told}
+use Rattle.machine.specs.declared.request.Told.TheVariants.{Count, Fail}
+use Rattle.machine.specs.declared.world.HandleKind.TheVariants.{Stream}
+use Rattle.machine.specs.declared.world.HandleState.{HandleState}
+use Rattle.machine.specs.declared.world.call.TheConstants.{INVALID}
+use Rattle.machine.proofs.Amended.{get-amended, get-amended-other}
+use Rattle.machine.proofs.Numbers.{same-or-not}
 use Rattle.driver_core.specs.Holds.{front_if, is_nobody, left_holders, named_in, settled, unheld_by, without_ops}
 use Rattle.driver_core.specs.declared.op.Op.{Op}
 use Rattle.driver_core.specs.declared.op.PollOp.TheVariants.{Pending, Ready}
@@ -96,12 +96,14 @@ amended_readable change falls world h g stream is = elim (same-or-not g h) [
   | inr e ↦ sym (ap (passes is_readable) (get-amended-other change world h g e)) ∙ is
 ]
 
+-- What can be read behind a receive could be read before it.
 taken_falls : (k : ℕ) (handle : HandleState) → handle.kind ≡ Stream → is_readable (without_front k handle) ≡ true → is_readable handle ≡
     true
 taken_falls k handle stream is =
     ap (λ kind. readable_by_kind kind handle) stream
     ∙ rest_some k handle.input handle.ended (sym (ap (λ kind. readable_by_kind kind (without_front k handle)) stream) ∙ is)
 
+-- And behind a send.
 sent_falls : (bytes : List ℕ) (handle : HandleState) → handle.kind ≡ Stream → is_readable (with_sent bytes handle) ≡ true
     → is_readable handle ≡ true
 sent_falls bytes handle stream is =
@@ -134,16 +136,19 @@ early_unread world h early = by (slice_get world h) early
     by None is = refl
     by (Some handle) is = search (arith, nat_tests)
 
+-- A call that would block waits to read: no other test lets it block.
 blocked_early : (b f : Bool) (why : Told) (count : ℕ) → answer_if (not b) None (answer_if (not f) (Some why) (Some (Count count))) ≡ None
     → b ≡ false
 blocked_early false f why count is = refl
 blocked_early true true why count is = absurd cc
 blocked_early true false why count is = absurd cc
 
+-- A receive that would block has nothing to read.
 pub receive_unread : (world : List HandleState) (h want : ℕ) → attempt world (In h want) ≡ None → is_readable_at world h ≡ false
 receive_unread world h want none =
     early_unread world h (blocked_early (passes reads_at_once (slice_get world h)) _ (Fail INVALID) _ none)
 
+-- Nor has an accept.
 pub accept_unread : (world : List HandleState) (h : ℕ) → attempt world (Accept h) ≡ None → is_readable_at world h ≡ false
 accept_unread world h none =
     early_unread world h (blocked_early (passes reads_at_once (slice_get world h)) _ (Fail INVALID) _ none)
@@ -218,6 +223,7 @@ ready_bits B records after number task (Some (own, dir)) done left h = by (meets
     by false none = absurd none
     by true left = ap (λ k. (io_at k h).ready) left ∙ bits-kept records own (with_io (without_waiter number)) (λ one. refl) h
 
+-- A poll that memory ran out for left the bits of each handle.
 pub starved_bits : (B : Type 0) (records after : Kept) (number task : ℕ) (awaited : Option (ℕ × Direction)) (error : NoMemory × Op)
     → LeavesFor {B = B} awaited records number task after (Err error) → (h : ℕ) → (io_at after h).ready ≡ (io_at records h).ready
 starved_bits B records after number task None error left h = ap (λ k. (io_at k h).ready) left
@@ -351,6 +357,7 @@ pub but_near : {I : Type 0} (view : I → IoView) (memory : Bool) (old new : Leg
     → KeepsSeenBut view memory old near near new → KeepsSeenBut view memory old near far new
 but_near view memory old new near far keeps memory_is h first second held stream seen = keeps memory_is h first first held stream seen
 
+-- The same of the far handle.
 pub but_far : {I : Type 0} (view : I → IoView) (memory : Bool) (old new : LegacyState I Buf) (near far : ℕ)
     → KeepsSeenBut view memory old far far new → KeepsSeenBut view memory old near far new
 but_far view memory old new near far keeps memory_is h first second held stream seen = keeps memory_is h second second held stream seen

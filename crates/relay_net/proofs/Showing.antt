@@ -4,9 +4,9 @@ use Rattle.std.proofs.Common.{Some, None}
 use Rattle.std.specs.Prelude.{◌||◌, is_some, nat_le}
 use Rattle.std.specs.FinMap as map
 use Rattle.rent_buf.specs.declared.plain.Buf.{Buf}
-use Rattle.ring_core.specs.declared.entry.TheConstants.{MOST_HANDLES}
-use Rattle.ring_core.specs.World.{fresh}
-use Rattle.ring_core.specs.declared.world.HandleKind.TheVariants.{Stream}
+use Rattle.machine.specs.declared.world.TheConstants.{MOST_HANDLES}
+use Rattle.machine.specs.World.{fresh}
+use Rattle.machine.specs.declared.world.HandleKind.TheVariants.{Stream}
 use Rattle.driver_core.specs.declared.op.Turned.{Turned}
 use Rattle.ready_driver.specs.declared.non_block.NonBlockError.{NonBlockError}
 use Rattle.ready_driver.specs.Dialing.{IsOpened, IsUnopened}
@@ -15,7 +15,7 @@ use Rattle.ready_driver.specs.LegacyState.{LegacyState}
 use Rattle.ready_driver.specs.LegacyTurns.{LegacyTurns, TurnsBy, turning_in}
 use Rattle.ready_driver.specs.Records.{io_at}
 use Rattle.ready_driver.specs.Registry.{is_old, is_users}
-use Rattle.ring_core.specs.Attempt.{is_readable_at}
+use Rattle.machine.specs.Attempt.{is_readable_at}
 use Rattle.relay_net.specs.Forwarding.{IsSeen, KeepsSeen}
 use Rattle.relay_net.specs.Keyed.{HasKeys}
 use Rattle.relay_net.specs.Keeping.{world_of}

@@ -4,9 +4,9 @@ use Rattle.rent_buf.specs.Buffer.{Buffer}
 use Rattle.rent_buf.specs.Counts.{Rose}
 use Rattle.rent_buf.specs.Parts.{Parts}
 use Rattle.rent_buf.specs.declared.plain.Buf.{Buf}
-use Rattle.ring_core.specs.World.{input_at}
-use Rattle.ring_core.specs.declared.request.Request.{Request}
-use Rattle.ring_core.specs.declared.world.HandleState.{HandleState}
+use Rattle.machine.specs.World.{input_at}
+use Rattle.machine.specs.declared.request.Request.{Request}
+use Rattle.machine.specs.declared.world.HandleState.{HandleState}
 use Rattle.driver_core.specs.Ops.{Ops}
 use Rattle.ready_driver.specs.Io.{IoView, IsLater}
 use Rattle.ready_driver.specs.LegacyState.{LegacyState, ops_in}
@@ -33,13 +33,14 @@ far_of conn = conn.forth.to
 
 -- The direction from the far handle to the near one goes just so, and the driver has the operation that it waits for. There is none where
 -- both are the same.
-abbrev pub FitsBack : Ops Buf → ℕ → ℕ → Option Flow → Type 0
-FitsBack ops near far None = near ≡ far
-FitsBack ops near far (Some flow) = (near ≢ far) × (flow.from ≡ far) × (flow.to ≡ near) × FitsStage ops far near flow.stage
+abbrev pub FitsBack : ℕ → Ops Buf → ℕ → ℕ → Option Flow → Type 0
+FitsBack room ops near far None = near ≡ far
+FitsBack room ops near far (Some flow) =
+    (near ≢ far) × (flow.from ≡ far) × (flow.to ≡ near) × FitsStage room ops far near flow.stage
 
 -- The driver has the operations that a connection waits for.
 abbrev pub FitsConnection : Ops Buf → Connection → Type 0
-FitsConnection ops conn = FitsFlow ops conn.forth × FitsBack ops (near_of conn) (far_of conn) conn.back
+FitsConnection ops conn = FitsFlow conn.room ops conn.forth × FitsBack conn.room ops (near_of conn) (far_of conn) conn.back
 
 -- What it holds from the near handle to the far one, and the other way.
 abbrev pub held_forth : Ops Buf → Connection → List ℕ
@@ -121,6 +122,7 @@ pub record Serves {I : Type 0} (view : I → IoView) (tells : Bool) (old new : L
     : Type 0 where
   pub near : near_of now ≡ near_of before
   pub far : far_of now ≡ far_of before
+  pub room : now.room ≡ before.room
   pub fits : FitsConnection (ops_in new) now
   pub leaves : LeavesConnection view tells old (near_of before) (far_of before) new
   pub lines : KeepsLines tells (world_of view old) (world_of view new) (near_of before) (far_of before) (held_forth (ops_in old) before)

@@ -6,11 +6,12 @@ use Rattle.rent_buf.specs.Buffer.{Buffer, shown, whole_of}
 use Rattle.rent_buf.specs.Parts.{Parts}
 use Rattle.rent_buf.specs.declared.kind.Kind.TheVariants.{Vector}
 use Rattle.rent_buf.specs.declared.plain.Buf.{Buf}
-use Rattle.ring_core.specs.Request.{plain_request}
-use Rattle.ring_core.specs.World.{input_at}
-use Rattle.ring_core.specs.declared.request.Request.{Request}
-use Rattle.ring_core.specs.declared.request.Request.TheVariants.{Recv, Send}
-use Rattle.ring_core.specs.declared.world.HandleState.{HandleState}
+use Rattle.machine.specs.Request.{plain_request}
+use Rattle.machine.specs.World.{input_at}
+use Rattle.machine.specs.declared.request.Request.{Request}
+use Rattle.machine.specs.declared.request.Request.TheVariants.{Recv, Send}
+use Rattle.machine.specs.declared.request.TheConstants.{MOST_ASKED}
+use Rattle.machine.specs.declared.world.HandleState.{HandleState}
 use Rattle.driver_core.specs.Op.{Holds}
 use Rattle.driver_core.specs.Ops.{Ops}
 use Rattle.driver_core.specs.Requests.{request_at}
@@ -20,7 +21,6 @@ use Rattle.net_stream.specs.Told.{output_at}
 use Rattle.relay_net.specs.declared.flow.Flow.{Flow}
 use Rattle.relay_net.specs.declared.flow.Stage.{Stage}
 use Rattle.relay_net.specs.declared.flow.Stage.TheVariants.{Idle, Receiving, Held, Sending}
-use Rattle.relay_net.specs.declared.flow.TheConstants.{ROOM}
 
 -- The request of an operation, as plain data.
 abbrev pub asked_at : Ops Buf → Op → Option (Request Buffer Parts)
@@ -31,17 +31,19 @@ abbrev pub IfAsked : Option (Request Buffer Parts) → (Request Buffer Parts →
 IfAsked None P = ⊥
 IfAsked (Some request) P = P request
 
+-- So many bytes are one at least, and as many as one request asks for at most: the room of a receive is so, and so is what a direction
+-- holds.
+abbrev pub IsLoad : ℕ → Type 0
+IsLoad count = (1 ≤ count) × (count ≤ MOST_ASKED)
+
 -- The buffer that a receive begins with: it is empty, and has the whole room.
-abbrev pub empty_buffer : Buffer
-empty_buffer = whole_of Vector [] ROOM
+abbrev pub empty_buffer : ℕ → Buffer
+empty_buffer room = whole_of Vector [] room
 
 -- A request is a receive from a handle, into such a buffer.
-abbrev pub IsReceive : ℕ → Request Buffer Parts → Type 0
-IsReceive from request = request ≡ Recv from empty_buffer
-
--- A direction holds so many bytes: one at least, and as many as a receive has room for at most.
-abbrev pub IsLoad : ℕ → Type 0
-IsLoad count = (1 ≤ count) × (count ≤ ROOM)
+pub record IsReceive (room from : ℕ) (request : Request Buffer Parts) : Type 0 where
+  pub request_is : request ≡ Recv from (empty_buffer room)
+  pub roomy : IsLoad room
 
 -- A request is a send of so many bytes to a handle.
 pub record IsSend (to count : ℕ) (request : Request Buffer Parts) : Type 0 where
@@ -62,15 +64,16 @@ pub record IsPending (ops : Ops Buf) (op : Op) (P : Request Buffer Parts → Typ
   pub flies : flies_in (map.get ops.slots.values op.key) ≡ true
   pub asks : IfAsked (asked_at ops op) P
 
--- The driver has the operation that a direction waits for, if it waits for one; and what the direction holds is a load.
-abbrev pub FitsStage : Ops Buf → ℕ → ℕ → Stage → Type 0
-FitsStage ops from to (Idle spare) = Unit {0}
-FitsStage ops from to (Receiving op) = IsPending ops op (IsReceive from)
-FitsStage ops from to (Held buf) = IsLoad (length (content_of buf))
-FitsStage ops from to (Sending op count) = IsPending ops op (IsSend to count)
+-- The driver has the operation that a direction waits for, if it waits for one; and what the direction holds is a load. A receive has
+-- so much room.
+abbrev pub FitsStage : ℕ → Ops Buf → ℕ → ℕ → Stage → Type 0
+FitsStage room ops from to (Idle spare) = Unit {0}
+FitsStage room ops from to (Receiving op) = IsPending ops op (IsReceive room from)
+FitsStage room ops from to (Held buf) = IsLoad (length (content_of buf))
+FitsStage room ops from to (Sending op count) = IsPending ops op (IsSend to count)
 
-abbrev pub FitsFlow : Ops Buf → Flow → Type 0
-FitsFlow ops flow = FitsStage ops flow.from flow.to flow.stage
+abbrev pub FitsFlow : ℕ → Ops Buf → Flow → Type 0
+FitsFlow room ops flow = FitsStage room ops flow.from flow.to flow.stage
 
 -- The bytes of a send.
 abbrev pub send_bytes : Request Buffer Parts → List ℕ

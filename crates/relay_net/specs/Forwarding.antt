@@ -2,12 +2,14 @@
 use Rattle.std.specs.Prelude.{ℕ, suc, ◌≡◌, ◌≢◌, ◌++◌, Bool, true, false, IsTrue, List, [], take, nat_lt, Some, slice_get}
 use Rattle.std.specs.Prelude.{Result, Ok, Err}
 use Rattle.rent_buf.specs.declared.plain.Buf.{Buf}
-use Rattle.ring_core.specs.Attempt.{is_readable_at}
-use Rattle.ring_core.specs.World.{input_at}
-use Rattle.ring_core.specs.declared.world.HandleState.{HandleState}
+use Rattle.machine.specs.Attempt.{is_readable_at}
+use Rattle.machine.specs.World.{input_at}
+use Rattle.machine.specs.declared.world.HandleState.{HandleState}
 use Rattle.ready_driver.specs.Io.{IoView}
 use Rattle.ready_driver.specs.LegacyState.{LegacyState, ops_in}
-use Rattle.ready_driver.specs.Records.{io_at}
+use Rattle.ready_driver.specs.Ready.{mask_of, meets}
+use Rattle.ready_driver.specs.Records.{Kept, io_at}
+use Rattle.ready_driver.specs.declared.ready.Direction.TheVariants.{Read, Write}
 use Rattle.ready_driver.specs.Registry.{is_users}
 use Rattle.ready_driver.specs.Reports.{ShowsBits}
 use Rattle.net_stream.specs.Told.{IsStream, output_at}
@@ -20,7 +22,6 @@ use Rattle.relay_net.specs.declared.connection.Served.TheVariants.{Open, Closed,
 use Rattle.relay_net.specs.declared.round.RelayError.{RelayError}
 use Rattle.relay_net.specs.declared.flow.Stage.{Stage}
 use Rattle.relay_net.specs.declared.flow.Stage.TheVariants.{Idle, Receiving, Held, Sending}
-use Rattle.relay_net.specs.declared.flow.TheConstants.{ROOM}
 
 -- The bits of a handle show what it has: that it can be written to, and read where it can.
 abbrev pub IsSeen : {I : Type 0} → (I → IoView) → LegacyState I Buf → ℕ → Type 0
@@ -45,9 +46,9 @@ pub record CanForward {I : Type 0} (view : I → IoView) (driver : LegacyState I
 
 -- A direction forwarded what it could: what it held has joined the output of its second handle; where it held nothing, it holds now what
 -- waited at its first one, or as much of it as a receive has room for.
-pub record Forwards (old new : List HandleState) (from to : ℕ) (held now : List ℕ) : Type 0 where
+pub record Forwards (room : ℕ) (old new : List HandleState) (from to : ℕ) (held now : List ℕ) : Type 0 where
   pub sends : held ≢ [] → output_at new to ≡ output_at old to ++ held
-  pub takes : held ≡ [] → now ≡ take ROOM (input_at old from)
+  pub takes : held ≡ [] → now ≡ take room (input_at old from)
 
 -- A direction waits for an operation.
 abbrev pub IsAwaiting : Stage → Type 0
@@ -56,12 +57,19 @@ IsAwaiting (Receiving op) = Unit {0}
 IsAwaiting (Held buf) = ⊥
 IsAwaiting (Sending op count) = Unit {0}
 
+-- The call that a direction waits for can't be made yet: no bit meets it.
+abbrev pub IsUnmetAt : Kept → ℕ → ℕ → Stage → Type 0
+IsUnmetAt records from to (Idle spare) = ⊥
+IsUnmetAt records from to (Receiving op) = meets (io_at records from).ready (mask_of Read) ≡ false
+IsUnmetAt records from to (Held buf) = ⊥
+IsUnmetAt records from to (Sending op count) = meets (io_at records to).ready (mask_of Write) ≡ false
+
 -- Both directions of a connection forwarded what they could. There is one where both handles are the same.
 pub record ForwardsBoth {I : Type 0} (view : I → IoView) (old : LegacyState I Buf) (before : Connection) (new : LegacyState I Buf)
     (now : Connection) : Type 0 where
-  pub forth : Forwards (world_of view old) (world_of view new) (near_of before) (far_of before) (held_forth (ops_in old) before)
+  pub forth : Forwards before.room (world_of view old) (world_of view new) (near_of before) (far_of before) (held_forth (ops_in old) before)
       (held_forth (ops_in new) now)
-  pub back : near_of before ≢ far_of before → Forwards (world_of view old) (world_of view new) (far_of before) (near_of before)
+  pub back : near_of before ≢ far_of before → Forwards before.room (world_of view old) (world_of view new) (far_of before) (near_of before)
       (held_back (ops_in old) before) (held_back (ops_in new) now)
 
 -- A step from the near handle to the far one.
@@ -70,7 +78,7 @@ pub record StepsForth {I : Type 0} (view : I → IoView) (tells memory : Bool) (
   pub held : held_back (ops_in new) now ≡ held_back (ops_in old) before
   pub moved : IsTrue tells → MovesBetween (world_of view old) (near_of before) (far_of before) (world_of view new)
   pub forwards : IsTrue memory → CanForward view old (near_of before) (far_of before) → now.ending ≡ false → answer ≡ Open →
-      Forwards (world_of view old) (world_of view new) (near_of before) (far_of before) (held_forth (ops_in old) before)
+      Forwards before.room (world_of view old) (world_of view new) (near_of before) (far_of before) (held_forth (ops_in old) before)
       (held_forth (ops_in new) now)
 
 -- One from the far handle to the near one, where they aren't the same.
@@ -81,13 +89,15 @@ pub record StepsBack {I : Type 0} (view : I → IoView) (tells memory : Bool) (o
   pub moved : IsTrue tells → MovesBetween (world_of view old) (far_of before) (near_of before) (world_of view new)
   pub forwards : IsTrue memory → near_of before ≢ far_of before → CanForward view old (far_of before) (near_of before) → now.ending ≡ false
       →
-      answer ≡ Open → Forwards (world_of view old) (world_of view new) (far_of before) (near_of before) (held_back (ops_in old) before)
+      answer ≡ Open → Forwards before.room (world_of view old) (world_of view new) (far_of before) (near_of before)
+      (held_back (ops_in old) before)
       (held_back (ops_in new) now)
 
--- A connection that was open as a round began, and whose step didn't come yet: it holds what it held, the bytes at its handles are what
--- they were, and if these are streams, their bits show what they have.
+-- A connection that was open as a round began, and whose step didn't come yet: it holds what it held, and asks for as much, the bytes at
+-- its handles are what they were, and if these are streams, their bits show what they have.
 pub record IsUntouched {I : Type 0} (view : I → IoView) (start : LegacyState I Buf) (conn : Connection) (driver : LegacyState I Buf)
     (now : Connection) : Type 0 where
+  pub room : now.room ≡ conn.room
   pub forth : held_forth (ops_in driver) now ≡ held_forth (ops_in start) conn
   pub back : held_back (ops_in driver) now ≡ held_back (ops_in start) conn
   pub near : (output_at (world_of view driver) (near_of conn) ≡ output_at (world_of view start) (near_of conn))

@@ -5,9 +5,9 @@ use Rattle.rent_buf.specs.Counts.{Rose}
 use Rattle.rent_buf.specs.Buffer.{Buffer}
 use Rattle.rent_buf.specs.Parts.{Parts}
 use Rattle.rent_buf.specs.declared.plain.Buf.{Buf}
-use Rattle.ring_core.specs.declared.request.Request.{Request}
-use Rattle.ring_core.specs.declared.world.HandleKind.TheVariants.{Stream}
-use Rattle.ring_core.specs.declared.world.HandleState.{HandleState}
+use Rattle.machine.specs.declared.request.Request.{Request}
+use Rattle.machine.specs.declared.world.HandleKind.TheVariants.{Stream}
+use Rattle.machine.specs.declared.world.HandleState.{HandleState}
 use Rattle.handle_core.specs.Table.{Table}
 use Rattle.driver_core.specs.Op.{Holds}
 use Rattle.driver_core.specs.Ops.{Ops}

@@ -1,8 +1,8 @@
 -- A listener in memory that a connection can be accepted of at once. Cited by the accept of a relay, and by its rounds.
 use Rattle.std.specs.Prelude.{ℕ, ◌≡◌, ◌≢◌, List, Some, slice_get, true, false}
 use Rattle.rent_buf.specs.declared.plain.Buf.{Buf}
-use Rattle.ring_core.specs.declared.world.HandleKind.TheVariants.{Listener, Stream}
-use Rattle.ring_core.specs.declared.world.HandleState.{HandleState}
+use Rattle.machine.specs.declared.world.HandleKind.TheVariants.{Listener, Stream}
+use Rattle.machine.specs.declared.world.HandleState.{HandleState}
 use Rattle.ready_driver.specs.declared.ready.Direction.TheVariants.{Read}
 use Rattle.ready_driver.specs.Io.{IoView}
 use Rattle.ready_driver.specs.LegacyState.{LegacyState}

@@ -6,10 +6,10 @@ use Rattle.rent_buf.specs.Parts.{Parts}
 use Rattle.rent_buf.specs.declared.plain.Buf.{Buf}
 use Rattle.handle_core.specs.Table.{Table}
 use Rattle.driver_core.specs.Ops.{Ops}
-use Rattle.ring_core.specs.World.{input_at}
-use Rattle.ring_core.specs.declared.request.Request.{Request}
-use Rattle.ring_core.specs.declared.request.Request.TheVariants.{Recv, Send}
-use Rattle.ring_core.specs.declared.world.HandleState.{HandleState}
+use Rattle.machine.specs.World.{input_at}
+use Rattle.machine.specs.declared.request.Request.{Request}
+use Rattle.machine.specs.declared.request.Request.TheVariants.{Recv, Send}
+use Rattle.machine.specs.declared.world.HandleState.{HandleState}
 use Rattle.ready_driver.specs.declared.non_block.NonBlockError.{NonBlockError}
 use Rattle.ready_driver.specs.declared.non_block.NonBlockError.TheVariants.{Fault, OutOfMemory as NoMemory}
 use Rattle.ready_driver.specs.Io.{IoView, IsLater}
@@ -21,8 +21,8 @@ use Rattle.relay_net.specs.Flow.{IsPending}
 use Rattle.relay_net.specs.Keeping.{KeepsOps, KeepsUsers, world_of}
 use Rattle.relay_net.specs.Relay.{AreMarked, Becomes, IsAccept, IsAmong, IsOpenStill}
 use Rattle.relay_net.specs.declared.connection.Connection.{Connection}
-use Rattle.ring_core.specs.declared.request.Outcome.{Outcome}
-use Rattle.ring_core.specs.declared.request.Outcome.TheVariants as ended
+use Rattle.machine.specs.declared.request.Outcome.{Outcome}
+use Rattle.machine.specs.declared.request.Outcome.TheVariants as ended
 use Rattle.relay_net.specs.declared.opening.Arrival.{Arrival}
 use Rattle.relay_net.specs.declared.opening.Arrival.TheVariants as arrival
 use Rattle.relay_net.specs.declared.round.Lost.{Lost}

@@ -1,13 +1,13 @@
 -- What a direction has behind an operation that ended, by its outcome. Cited by `flow`.
 use Rattle.std.specs.Prelude.{ℕ, zero, suc, ◌≡◌, ◌≤◌, List, [], drop, length}
 use Rattle.rent_buf.specs.Buf.{content_of}
-use Rattle.ring_core.specs.declared.request.Outcome.{Outcome}
-use Rattle.ring_core.specs.declared.request.Outcome.TheVariants.{Count, From, Made, Fail}
+use Rattle.machine.specs.declared.request.TheConstants.{MOST_ASKED}
+use Rattle.machine.specs.declared.request.Outcome.{Outcome}
+use Rattle.machine.specs.declared.request.Outcome.TheVariants.{Count, From, Made, Fail}
 use Rattle.relay_net.specs.Flow.{IsLoad}
 use Rattle.relay_net.specs.declared.flow.Came.{Came}
 use Rattle.relay_net.specs.declared.flow.Came.TheVariants.{Goes, Ended, Failed}
 use Rattle.relay_net.specs.declared.flow.Stage.{Stage}
-use Rattle.relay_net.specs.declared.flow.TheConstants.{ROOM}
 use Rattle.relay_net.specs.declared.flow.Stage.TheVariants.{Idle, Receiving, Held, Sending}
 
 -- It has nothing, and waits for nothing.
@@ -22,10 +22,10 @@ HoldsJust (Receiving op) bytes = ⊥
 HoldsJust (Held buf) bytes = (content_of buf ≡ bytes) × IsLoad (length bytes)
 HoldsJust (Sending op count) bytes = ⊥
 
--- A count of a receive is that of the bytes which came, of which it has room for all.
+-- A count of a receive is that of the bytes which came, no more than one request asks for.
 abbrev pub CountsLoad : Outcome → List ℕ → Type 0
-CountsLoad (Count k) bytes = (length bytes ≡ k) × (k ≤ ROOM)
-CountsLoad (From k addr) bytes = (length bytes ≡ k) × (k ≤ ROOM)
+CountsLoad (Count k) bytes = (length bytes ≡ k) × (k ≤ MOST_ASKED)
+CountsLoad (From k addr) bytes = (length bytes ≡ k) × (k ≤ MOST_ASKED)
 CountsLoad (Made h) bytes = Unit {0}
 CountsLoad (Fail error) bytes = Unit {0}
 

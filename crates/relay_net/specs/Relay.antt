@@ -6,9 +6,9 @@ use Rattle.rent_buf.specs.Counts.{Rose}
 use Rattle.rent_buf.specs.Parts.{Parts}
 use Rattle.rent_buf.specs.declared.plain.Buf.{Buf}
 use Rattle.handle_core.specs.Table.{Table}
-use Rattle.ring_core.specs.declared.request.Request.{Request}
-use Rattle.ring_core.specs.declared.request.Request.TheVariants.{Accept}
-use Rattle.ring_core.specs.declared.world.HandleState.{HandleState}
+use Rattle.machine.specs.declared.request.Request.{Request}
+use Rattle.machine.specs.declared.request.Request.TheVariants.{Accept}
+use Rattle.machine.specs.declared.world.HandleState.{HandleState}
 use Rattle.driver_core.specs.Ops.{Ops}
 use Rattle.driver_core.specs.declared.op.Op.{Op}
 use Rattle.ready_driver.specs.Io.{IoView, IsLater}
@@ -16,7 +16,7 @@ use Rattle.ready_driver.specs.LegacyState.{LegacyState, ops_in}
 use Rattle.ready_driver.specs.Registry.{is_users}
 use Rattle.relay_net.specs.Connection.{FitsConnection, IsMarked, KeepsLines, KeepsStreams, far_of, held_back, held_forth}
 use Rattle.relay_net.specs.Connection.{near_of}
-use Rattle.relay_net.specs.Flow.{IsPending}
+use Rattle.relay_net.specs.Flow.{IsLoad, IsPending}
 use Rattle.relay_net.specs.Keeping.{HasEnded, StopsFor, world_of}
 use Rattle.relay_net.specs.Listening.{AreGoingBut}
 use Rattle.relay_net.specs.declared.connection.Connection.{Connection}
@@ -38,9 +38,11 @@ pub record IsApartFrom (conn : Connection) (near far : ℕ) : Type 0 where
 abbrev pub AreBeside : Connection → Connection → Type 0
 AreBeside one other = IsApartFrom one (near_of other) (far_of other)
 
--- The driver has what a connection waits for, and its user holds its handles, of which none is the listener.
-pub record IsServed (ops : Ops Buf) (table : Table) (listener : ℕ) (conn : Connection) : Type 0 where
+-- The driver has what a connection waits for, whose receives have so much room, and its user holds its handles, of which none is the
+-- listener.
+pub record IsServed (room : ℕ) (ops : Ops Buf) (table : Table) (listener : ℕ) (conn : Connection) : Type 0 where
   pub fits : FitsConnection ops conn
+  pub room_is : conn.room ≡ room
   pub near : is_users table (near_of conn) ≡ true
   pub far : is_users table (far_of conn) ≡ true
   pub near_other : near_of conn ≢ listener
@@ -55,16 +57,18 @@ FitsAccept ops listener None = Unit {0}
 FitsAccept ops listener (Some op) = IsPending ops op (IsAccept listener)
 
 -- The connections of a relay: each is served, and no two have a handle together.
-pub record AreServed (ops : Ops Buf) (table : Table) (listener : ℕ) (open_ones : List Connection) : Type 0 where
-  pub each : (k : ℕ) (conn : Connection) → slice_get open_ones k ≡ Some conn → IsServed ops table listener conn
+pub record AreServed (room : ℕ) (ops : Ops Buf) (table : Table) (listener : ℕ) (open_ones : List Connection) : Type 0 where
+  pub each : (k : ℕ) (conn : Connection) → slice_get open_ones k ≡ Some conn → IsServed room ops table listener conn
   pub apart : (j k : ℕ) (one other : Connection) → j ≢ k → slice_get open_ones j ≡ Some one → slice_get open_ones k ≡ Some other →
       AreBeside one other
 
--- The whole: the listener too is the user's.
-pub record IsSound (ops : Ops Buf) (table : Table) (listener : ℕ) (accept : Option Op) (open_ones : List Connection) : Type 0 where
+-- The whole: the listener too is the user's, and a receive has room for a load.
+pub record IsSound (room : ℕ) (ops : Ops Buf) (table : Table) (listener : ℕ) (accept : Option Op) (open_ones : List Connection)
+    : Type 0 where
+  pub roomy : IsLoad room
   pub listens : is_users table listener ≡ true
   pub accepts : FitsAccept ops listener accept
-  pub served : AreServed ops table listener open_ones
+  pub served : AreServed room ops table listener open_ones
 
 -- A connection is open still. Its bytes on their way are what they were.
 pub record IsOpenStill {I : Type 0} (view : I → IoView) (tells : Bool) (old : LegacyState I Buf) (conn : Connection)

@@ -19,20 +19,29 @@ use Rattle.relay_net.specs.declared.relay.lists.Lists.{Lists}
 use Rattle.relay_net.specs.declared.round.RelayError.{RelayError}
 use Rattle.relay_net.specs.declared.round.Round.{Round}
 
--- Its driver, the handle that listens, the accept that waits, the connections that are open, and how many may be.
+-- Its driver, the handle that listens, the accept that waits, the connections that are open, how many may be, and how many bytes a receive
+-- has room for.
 pub record Relaying (I : Type 0) : Type 0 where
   pub driver : LegacyState I Buf
   pub listener : ℕ
   pub accept : Option Op
   pub open_ones : List Connection
   pub limit : ℕ
+  pub room : ℕ
 
 -- It is stored as the tuple of its fields.
 abbrev pub relaying_code : {I : Type 0} → Coded (LegacyState I Buf) → Coded Op → Coded Connection → Coded (Relaying I)
-relaying_code driver op connection = code_by (LegacyState _ Buf × (ℕ × (Option Op × (List Connection × ℕ))))
-    (coded× driver (coded× coded_ℕ (coded× (coded_option op) (coded× (coded_list connection) coded_ℕ))))
-    (λ r. (r.driver, (r.listener, (r.accept, (r.open_ones, r.limit)))))
-    (λ t. record { driver = t.0; listener = t.1.0; accept = t.1.1.0; open_ones = t.1.1.1.0; limit = t.1.1.1.1 })
+relaying_code driver op connection = code_by (LegacyState _ Buf × (ℕ × (Option Op × (List Connection × (ℕ × ℕ)))))
+    (coded× driver (coded× coded_ℕ (coded× (coded_option op) (coded× (coded_list connection) (coded× coded_ℕ coded_ℕ)))))
+    (λ r. (r.driver, (r.listener, (r.accept, (r.open_ones, (r.limit, r.room))))))
+    (λ t. record {
+      driver = t.0;
+      listener = t.1.0;
+      accept = t.1.1.0;
+      open_ones = t.1.1.1.0;
+      limit = t.1.1.1.1.0;
+      room = t.1.1.1.1.1;
+    })
     (λ _. refl)
 
 -- The lists of what a round names have nothing.

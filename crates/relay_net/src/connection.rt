@@ -1,5 +1,5 @@
 // A connection: what comes at either of its handles goes to the other.
-ghost use Rattle.std.specs.Prelude.{◌≡◌, ◌≢◌, ◌≤◌, ◌<◌, ◌+◌, [], true, false, length, IsTrue};
+ghost use Rattle.std.specs.Prelude.{◌≡◌, ◌≢◌, ◌≤◌, ◌<◌, ◌+◌, [], true, false, length, IsTrue, ℕ};
 ghost use Rattle.rent_buf.specs.declared.plain.Buf.{Buf};
 ghost use Rattle.driver_core.specs.Ops.{Ops};
 ghost use Rattle.ready_driver.specs.LegacyState.{ops_in};
@@ -7,6 +7,7 @@ ghost use Rattle.ready_driver.specs.Registry.{is_users};
 ghost use Rattle.relay_net.specs.Connection.{EndsConnection, FitsConnection, FitsBack, FollowsAs, IsGoing, IsLostAs, IsOver, IsOverIf};
 ghost use Rattle.relay_net.specs.Connection.{Releases, Serves};
 ghost use Rattle.relay_net.specs.Connection.{far_of, held_back, held_forth, near_of};
+ghost use Rattle.relay_net.specs.Flow.{IsLoad};
 ghost use Rattle.relay_net.specs.Forwarding.{CanForward, ForwardsBoth, KeepsSeen, KeepsSeenBut, StepsBack, StepsForth};
 ghost use Rattle.relay_net.specs.Keyed.{KeepsKeys};
 
@@ -25,6 +26,8 @@ pub struct Connection {
     pub back: Option<Flow>,
     /// A receive brought the end: no further one is submitted.
     pub ending: bool,
+    /// How many bytes a receive asks for.
+    pub room: usize,
 }
 
 /// What became of a connection.
@@ -59,6 +62,7 @@ fn follow(ending: &mut bool, came: Came) -> Served
 // A step from the near handle to the far one.
 #[tactic(auto, using(crate::proofs::Connections::users_held))]
 fn step_forth<I: NonBlock>(driver: &mut Reads<I>, alloc: Global, conn: &mut Connection) -> Served
+    requires roomy { IsLoad conn.old.room }
     requires fits { FitsConnection (ops_in driver.old) conn.old }
     requires near { is_users driver.old.handling.table (near_of conn.old) ≡ true }
     requires far { is_users driver.old.handling.table (far_of conn.old) ≡ true }
@@ -71,13 +75,14 @@ fn step_forth<I: NonBlock>(driver: &mut Reads<I>, alloc: Global, conn: &mut Conn
     ensures forwards { StepsForth I.view I.tells I.memory driver.old driver.new conn.old conn.new result }
 {
     let reads = !conn.ending;
-    let came = step(driver, alloc, &mut conn.forth, reads);
+    let came = step(driver, alloc, conn.room, &mut conn.forth, reads);
     follow(&mut conn.ending, came)
 }
 
 // A step from the far handle to the near one, where they aren't the same.
 #[tactic(auto, using(crate::proofs::Connections::users_held, crate::proofs::Connections::none_serves, crate::proofs::Keyed::keeps_none))]
 fn step_back<I: NonBlock>(driver: &mut Reads<I>, alloc: Global, conn: &mut Connection) -> Served
+    requires roomy { IsLoad conn.old.room }
     requires fits { FitsConnection (ops_in driver.old) conn.old }
     requires near { is_users driver.old.handling.table (near_of conn.old) ≡ true }
     requires far { is_users driver.old.handling.table (far_of conn.old) ≡ true }
@@ -93,7 +98,7 @@ fn step_back<I: NonBlock>(driver: &mut Reads<I>, alloc: Global, conn: &mut Conne
     match &mut conn.back {
         None => Served::Open,
         Some(flow) => {
-            let came = step(driver, alloc, flow, reads);
+            let came = step(driver, alloc, conn.room, flow, reads);
             follow(&mut conn.ending, came)
         }
     }
@@ -105,6 +110,7 @@ pub(crate) fn serve<I: NonBlock>(
     alloc: Global,
     conn: &mut Connection,
 ) -> Served
+    requires roomy { IsLoad conn.old.room }
     requires fits { FitsConnection (ops_in driver.old) conn.old }
     requires near { is_users driver.old.handling.table (near_of conn.old) ≡ true }
     requires far { is_users driver.old.handling.table (far_of conn.old) ≡ true }
@@ -145,7 +151,7 @@ pub(crate) fn release<I: NonBlock>(driver: &mut Reads<I>, fd: SharedFd)
 // Ends the direction from the far handle to the near one, where there is one, with the far handle.
 #[tactic(auto, using(crate::proofs::Keyed::keeps_none, crate::proofs::Keyed::keeps_then))]
 fn end_back<I: NonBlock>(driver: &mut Reads<I>, near: SharedFd, far: SharedFd, back: Option<Flow>)
-    requires fits { FitsBack (ops_in driver.old) near far back }
+    requires fits { (room : ℕ) × FitsBack room (ops_in driver.old) near far back }
     requires held { is_users driver.old.handling.table far ≡ true }
     ensures ends { EndsConnection I.view I.tells driver.old near far driver.new }
     ensures near { near ≢ far → is_users driver.old.handling.table near ≡ true → is_users driver.new.handling.table near ≡ true }
@@ -169,9 +175,10 @@ fn end_back<I: NonBlock>(driver: &mut Reads<I>, near: SharedFd, far: SharedFd, b
 }
 
 impl Connection {
-    // One of these handles, that nothing came at.
-    pub(crate) fn new(near: SharedFd, far: SharedFd) -> Connection
+    // One of these handles, that nothing came at, whose receives have so much room.
+    pub(crate) fn new(near: SharedFd, far: SharedFd, room: usize) -> Connection
         ensures handles { (near_of result ≡ near) × (far_of result ≡ far) }
+        ensures room { result.room ≡ room }
         ensures fits { (ops : Ops Buf) → FitsConnection ops result }
         ensures none { (ops : Ops Buf) → (held_forth ops result ≡ []) × (held_back ops result ≡ []) }
         ensures going { result.ending ≡ false }
@@ -185,6 +192,7 @@ impl Connection {
             forth: Flow::new(near, far),
             back,
             ending: false,
+            room,
         }
     }
 
@@ -192,7 +200,7 @@ impl Connection {
     fn is_over(&self) -> bool
         ensures { (ops : Ops Buf) → FitsConnection ops self.now → IsTrue result → IsOver ops self.now }
     {
-        self.ending && self.forth.held() == 0 && self.held_back() == 0
+        self.ending && self.held_forth() == 0 && self.held_back() == 0
     }
 
     // The next step of a direction submits an operation.
@@ -219,9 +227,16 @@ impl Connection {
         Lost {
             connection: self.near(),
             fault,
-            unsent: self.forth.held() as u64,
+            unsent: self.held_forth() as u64,
             unsent_back: self.held_back() as u64,
         }
+    }
+
+    // How many bytes it holds from the near handle to the far one.
+    fn held_forth(&self) -> usize
+        ensures { (ops : Ops Buf) → FitsConnection ops self.now → result ≡ length (held_forth ops self.now) }
+    {
+        self.forth.held()
     }
 
     // How many bytes it holds from the far handle to the near one.
@@ -248,6 +263,7 @@ impl Connection {
             forth,
             back,
             ending: _,
+            room: _,
         } = self;
         let Flow {
             from: near,

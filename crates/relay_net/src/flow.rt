@@ -1,38 +1,39 @@
 // One direction of a connection: bytes come at a handle, and go to another one.
-ghost use Rattle.std.specs.Prelude.{◌≡◌, ◌≤◌, ◌<◌, ◌+◌, ◌∷◌, [], true, false, None, ℕ, IsTrue, IfOk, IfErr, OnOk, drop, length};
+ghost use Rattle.std.specs.Prelude.{◌≡◌, ◌≤◌, ◌<◌, ◌+◌, ◌∷◌, [], true, false, None, ℕ, IsTrue, IfOk, IfErr, OnOk, length};
 ghost use Rattle.rent_buf.specs.Buf.{built, content_of};
-ghost use Rattle.rent_buf.specs.Buffer.{Buffer, shown};
-ghost use Rattle.ring_core.specs.Effect.{made_by};
-ghost use Rattle.ring_core.specs.Request.{named, plain_request};
-ghost use Rattle.ring_core.specs.declared.request.Request.TheVariants.{Recv, Send};
+ghost use Rattle.machine.specs.Effect.{made_by};
+ghost use Rattle.machine.specs.Request.{named, plain_request};
 ghost use Rattle.ready_driver.specs.LegacyState.{holds_all, ops_in};
+ghost use Rattle.ready_driver.specs.Ready.{mask_of, meets};
 ghost use Rattle.ready_driver.specs.Records.{io_at};
 ghost use Rattle.relay_net.specs.Flow.{FitsFlow, FitsStage, IsLoad, IsPending, IsReceive, IsSend, asked_at, bytes_sent};
-ghost use Rattle.relay_net.specs.Flow.{empty_buffer, held_in};
-ghost use Rattle.relay_net.specs.Forwarding.{CanForward, Forwards, IsAwaiting, KeepsSeen};
+ghost use Rattle.relay_net.specs.Flow.{held_in};
+ghost use Rattle.relay_net.specs.Forwarding.{CanForward, Forwards, IsAwaiting, IsUnmetAt, KeepsSeen};
 ghost use Rattle.relay_net.specs.Keeping.{Stays, StopsAs, StopsFor, world_of};
 ghost use Rattle.relay_net.specs.Keyed.{KeepsKeys};
 ghost use Rattle.relay_net.specs.Outcomes.{CountsLoad, IsIdle, ReceivedAs, SentAs};
 ghost use Rattle.relay_net.specs.Steps.{Begins, Flows};
 ghost use Rattle.driver_core.specs.Ops.{Ops};
 
+mod buffers;
 mod drops;
 
+use crate::flow::buffers::{cut, empty, received_buffer, sent_buffer, spare_of};
 use crate::round::RelayError;
 use driver_core::{Done, MOST_GIVEN, Op, PollOp, SubmitError, SubmitFault};
 pub(crate) use drops::abandon;
 use handle_core::SharedFd;
+use machine::{Outcome, Request};
 use op_driver::OpDriver;
-use ready_driver::{LegacyDriver, NonBlock};
-use rent_buf::{Buf, IoBuf as _, IoBufMut, OutOfMemory, Rent, SliceMut, VecBuf};
-use ring_core::{Outcome, Request};
+use ready_driver::{Direction, LegacyDriver, NonBlock};
+use rent_buf::{Buf, IoBuf as _, Rent, VecBuf};
 use std::alloc::Global;
 use std::mem;
 
-/// The most bytes that a receive of a relay asks for.
+/// How many bytes a receive of a relay that `Relay::new` made asks for.
 pub const ROOM: usize = 4096;
 
-// The task of each operation of a relay, which polls each in each round.
+// The task of each operation of a relay, which looks at each in each round.
 pub(crate) const TASK: u64 = 0;
 
 /// The relay's driver.
@@ -114,101 +115,27 @@ pub(crate) fn submit<I: NonBlock>(
     }
 }
 
-// The buffer of a receive.
-fn received_buffer(request: Request<Buf, VecBuf>, from: SharedFd) -> Buf
-    requires { (buf : Buffer) × (plain_request built request ≡ Recv from buf) }
-    ensures { plain_request built request ≡ Recv from (built result) }
-{
-    let _ = from;
-    match request {
-        Request::Recv { fd: _, buf } => buf,
-        _ => unreachable!(),
-    }
-}
-
-// The buffer of a send.
-fn sent_buffer(request: Request<Buf, VecBuf>, to: SharedFd) -> Buf
-    requires { (buf : Buffer) × (plain_request built request ≡ Send to buf) }
-    ensures { plain_request built request ≡ Send to (built result) }
-{
-    let _ = to;
-    match request {
-        Request::Send { fd: _, buf } => buf,
-        _ => unreachable!(),
-    }
-}
-
-// The memory of a buffer that is used no more.
-fn spare_of(buf: Buf) -> Option<Rent> {
-    match buf {
-        Buf::Vector(slice) => Some(slice.into_inner()),
-        _ => None,
-    }
-}
-
-// This memory, or else other, which has the whole room.
-fn roomy(alloc: Global, rent: Rent) -> Result<Rent, OutOfMemory>
-    ensures { IfOk result (λ roomy. roomy.total ≡ ROOM) }
-{
-    if rent.total() == ROOM {
-        return Ok(rent);
-    }
-    Rent::with_total(alloc, ROOM)
-}
-
-// An empty buffer for a receive, in memory that was used, where there is some.
-fn empty(alloc: Global, spare: Option<Rent>) -> Result<Buf, OutOfMemory>
-    ensures { IfOk result (λ buf. built buf ≡ empty_buffer) }
-{
-    let mut rent = match spare {
-        Some(rent) => roomy(alloc, rent)?,
-        None => Rent::with_total(alloc, ROOM)?,
-    };
-    rent.clear();
-    Ok(Buf::Vector(SliceMut::new(rent, 0, ROOM)))
-}
-
-// A range without its first bytes.
-fn cut_range<T: IoBufMut>(slice: SliceMut<T>, count: usize) -> SliceMut<T>
-    requires { count ≤ length (shown slice.buffer) }
-    ensures { shown result.buffer ≡ drop count (shown slice.buffer) }
-{
-    slice.keeps_bounds();
-    let (begin, end) = (slice.begin() + count, slice.end());
-    SliceMut::new(slice.into_inner(), begin, end)
-}
-
-// A buffer without its first bytes.
-fn cut(buf: Buf, count: usize) -> Buf
-    requires { count ≤ length (content_of buf) }
-    ensures { content_of result ≡ drop count (content_of buf) }
-{
-    match buf {
-        Buf::Vector(slice) => Buf::Vector(cut_range(slice, count)),
-        Buf::Grown(slice) => Buf::Grown(cut_range(slice, count)),
-        Buf::Fixed(slice) => Buf::Fixed(cut_range(slice, count)),
-    }
-}
-
 // Submits a receive.
 #[tactic(auto, using(crate::proofs::Keyed::keeps_none))]
 fn receive<I: NonBlock>(
     driver: &mut Reads<I>,
     alloc: Global,
+    room: usize,
     from: SharedFd,
     to: SharedFd,
     spare: Option<Rent>,
 ) -> (Stage, Option<RelayError>)
+    requires roomy { IsLoad room }
     requires held { IsTrue (holds_all driver.old.handling.table (from ∷ [])) }
     requires counter { driver.old.given < MOST_GIVEN }
-    ensures begins { Begins I.view I.tells driver.old driver.new from to [] result.0 result.1 }
+    ensures begins { Begins I.view I.tells driver.old driver.new room from to [] result.0 result.1 }
     ensures given { driver.new.given ≤ driver.old.given + 1 }
     ensures keyed { KeepsKeys I.view I.memory driver.old driver.new }
     ensures seen { KeepsSeen I.view I.memory driver.old driver.new }
     ensures awaits { result.1 ≡ None → IsAwaiting result.0 }
 {
     let _ = to;
-    let Ok(buf) = empty(alloc, spare) else {
+    let Ok(buf) = empty(alloc, room, spare) else {
         return (Stage::Idle(None), Some(RelayError::OutOfMemory));
     };
     match submit(driver, Request::Recv { fd: from, buf }) {
@@ -223,6 +150,7 @@ fn receive<I: NonBlock>(
 // Submits a send of all bytes of a buffer.
 fn send<I: NonBlock>(
     driver: &mut Reads<I>,
+    room: usize,
     from: SharedFd,
     to: SharedFd,
     buf: Buf,
@@ -230,13 +158,13 @@ fn send<I: NonBlock>(
     requires held { IsTrue (holds_all driver.old.handling.table (to ∷ [])) }
     requires load { IsLoad (length (content_of buf)) }
     requires counter { driver.old.given < MOST_GIVEN }
-    ensures begins { Begins I.view I.tells driver.old driver.new from to (content_of buf) result.0 result.1 }
+    ensures begins { Begins I.view I.tells driver.old driver.new room from to (content_of buf) result.0 result.1 }
     ensures given { driver.new.given ≤ driver.old.given + 1 }
     ensures keyed { KeepsKeys I.view I.memory driver.old driver.new }
     ensures seen { KeepsSeen I.view I.memory driver.old driver.new }
     ensures awaits { result.1 ≡ None → IsAwaiting result.0 }
 {
-    let _ = from;
+    let _ = (room, from);
     let count = buf.bytes_init();
     match submit(driver, Request::Send { fd: to, buf }) {
         Ok(op) => (Stage::Sending { op, count }, None),
@@ -284,18 +212,19 @@ fn sent(outcome: Outcome, buf: Buf) -> (Stage, Came)
 fn poll_receive<I: NonBlock>(
     driver: &mut Reads<I>,
     op: Op,
+    room: usize,
     from: SharedFd,
     to: SharedFd,
 ) -> (Stage, Came)
-    requires pending { IsPending (ops_in driver.old) op (IsReceive from) }
-    ensures flows { Flows I.view I.tells driver.old driver.new from to [] result.0 result.1 }
+    requires pending { IsPending (ops_in driver.old) op (IsReceive room from) }
+    ensures flows { Flows I.view I.tells driver.old driver.new room from to [] result.0 result.1 }
     ensures given { driver.new.given ≡ driver.old.given }
     ensures keyed { KeepsKeys I.view I.memory driver.old driver.new }
     ensures seen { KeepsSeen I.view I.memory driver.old driver.new }
     ensures forwards { IsTrue I.memory → CanForward I.view driver.old from to → result.1 ≡ Came.Goes
-        → Forwards (world_of I.view driver.old) (world_of I.view driver.new) from to [] (held_in (ops_in driver.new) result.0) }
+        → Forwards room (world_of I.view driver.old) (world_of I.view driver.new) from to [] (held_in (ops_in driver.new) result.0) }
 {
-    let _ = to;
+    let _ = (room, to);
     match OpDriver::poll_op(driver, op, TASK) {
         Ok(PollOp::Pending(op)) => (Stage::Receiving(op), Came::Goes),
         Ok(PollOp::Ready(done)) => {
@@ -311,19 +240,21 @@ fn poll_send<I: NonBlock>(
     driver: &mut Reads<I>,
     op: Op,
     count: usize,
+    room: usize,
     from: SharedFd,
     to: SharedFd,
 ) -> (Stage, Came)
     requires pending { IsPending (ops_in driver.old) op (IsSend to count) }
-    ensures flows { Flows I.view I.tells driver.old driver.new from to (bytes_sent (asked_at (ops_in driver.old) op)) result.0 result.1 }
+    ensures flows { Flows I.view I.tells driver.old driver.new room from to (bytes_sent (asked_at (ops_in driver.old) op)) result.0
+        result.1 }
     ensures given { driver.new.given ≡ driver.old.given }
     ensures keyed { KeepsKeys I.view I.memory driver.old driver.new }
     ensures seen { KeepsSeen I.view I.memory driver.old driver.new }
     ensures forwards { IsTrue I.memory → CanForward I.view driver.old from to → result.1 ≡ Came.Goes
-        → Forwards (world_of I.view driver.old) (world_of I.view driver.new) from to (bytes_sent (asked_at (ops_in driver.old) op))
+        → Forwards room (world_of I.view driver.old) (world_of I.view driver.new) from to (bytes_sent (asked_at (ops_in driver.old) op))
         (held_in (ops_in driver.new) result.0) }
 {
-    let _ = from;
+    let _ = (room, from);
     match OpDriver::poll_op(driver, op, TASK) {
         Ok(PollOp::Pending(op)) => (Stage::Sending { op, count }, Came::Goes),
         Ok(PollOp::Ready(done)) => {
@@ -342,16 +273,18 @@ fn poll_send<I: NonBlock>(
 fn begin<I: NonBlock>(
     driver: &mut Reads<I>,
     alloc: Global,
+    room: usize,
     from: SharedFd,
     to: SharedFd,
     stage: Stage,
     reads: bool,
 ) -> (Stage, Option<RelayError>)
-    requires fits { FitsStage (ops_in driver.old) from to stage }
+    requires roomy { IsLoad room }
+    requires fits { FitsStage room (ops_in driver.old) from to stage }
     requires from { IsTrue (holds_all driver.old.handling.table (from ∷ [])) }
     requires to { IsTrue (holds_all driver.old.handling.table (to ∷ [])) }
     requires counter { driver.old.given < MOST_GIVEN }
-    ensures begins { Begins I.view I.tells driver.old driver.new from to (held_in (ops_in driver.old) stage) result.0 result.1 }
+    ensures begins { Begins I.view I.tells driver.old driver.new room from to (held_in (ops_in driver.old) stage) result.0 result.1 }
     ensures quiet { reads ≡ false → IsIdle stage → IsIdle result.0 }
     ensures given { driver.new.given ≤ driver.old.given + 1 }
     ensures keyed { KeepsKeys I.view I.memory driver.old driver.new }
@@ -361,36 +294,50 @@ fn begin<I: NonBlock>(
     match stage {
         Stage::Idle(spare) => {
             if reads {
-                return receive(driver, alloc, from, to, spare);
+                return receive(driver, alloc, room, from, to, spare);
             }
             (Stage::Idle(spare), None)
         }
-        Stage::Held(buf) => send(driver, from, to, buf),
+        Stage::Held(buf) => send(driver, room, from, to, buf),
         pending => (pending, None),
     }
+}
+
+// The call of an operation that waits for a direction of a handle can't be made yet: no report met the direction, and the handle is no
+// file, whose calls wait for none. A poll would make no call.
+pub(crate) fn is_unmet<I: NonBlock>(driver: &Reads<I>, h: SharedFd, dir: Direction) -> bool
+    ensures { IsTrue result → meets (io_at driver.now.handling.records h).ready (mask_of dir) ≡ false }
+{
+    let ready = driver.readiness(h.number());
+    let met = match dir {
+        Direction::Read => ready.is_readable(),
+        Direction::Write => ready.is_writable(),
+    };
+    !met && !driver.io().is_file(h.number())
 }
 
 // Polls what waits.
 #[tactic(auto, using(crate::proofs::Flows::still_flows, crate::proofs::Keyed::keeps_none))]
 fn poll<I: NonBlock>(
     driver: &mut Reads<I>,
+    room: usize,
     from: SharedFd,
     to: SharedFd,
     stage: Stage,
 ) -> (Stage, Came)
-    requires fits { FitsStage (ops_in driver.old) from to stage }
-    ensures flows { Flows I.view I.tells driver.old driver.new from to (held_in (ops_in driver.old) stage) result.0 result.1 }
+    requires fits { FitsStage room (ops_in driver.old) from to stage }
+    ensures flows { Flows I.view I.tells driver.old driver.new room from to (held_in (ops_in driver.old) stage) result.0 result.1 }
     ensures quiet { IsIdle stage → IsIdle result.0 }
     ensures given { driver.new.given ≡ driver.old.given }
     ensures keyed { KeepsKeys I.view I.memory driver.old driver.new }
     ensures seen { KeepsSeen I.view I.memory driver.old driver.new }
     ensures forwards { IsTrue I.memory → IsAwaiting stage → CanForward I.view driver.old from to → result.1 ≡ Came.Goes
-        → Forwards (world_of I.view driver.old) (world_of I.view driver.new) from to (held_in (ops_in driver.old) stage)
+        → Forwards room (world_of I.view driver.old) (world_of I.view driver.new) from to (held_in (ops_in driver.old) stage)
         (held_in (ops_in driver.new) result.0) }
 {
     match stage {
-        Stage::Receiving(op) => poll_receive(driver, op, from, to),
-        Stage::Sending { op, count } => poll_send(driver, op, count, from, to),
+        Stage::Receiving(op) => poll_receive(driver, op, room, from, to),
+        Stage::Sending { op, count } => poll_send(driver, op, count, room, from, to),
         still => (still, Came::Goes),
     }
 }
@@ -406,20 +353,23 @@ fn put(slot: &mut Stage, stage: Stage)
     }
 }
 
-// A step of a direction: it submits what it wants, and polls once what waits.
-#[tactic(auto, using(crate::proofs::Flows::stopped_flows, crate::proofs::Flows::begun_flows, crate::proofs::Keyed::keeps_then))]
+// A step of a direction: it submits what it wants, and polls once what waits; but where the call of what waits can't be made yet, there is
+// nothing to do.
+#[tactic(auto, using(crate::proofs::Flows::stopped_flows, crate::proofs::Flows::begun_flows, crate::proofs::Flows::still_flows, crate::proofs::Keyed::keeps_then, crate::proofs::Keyed::keeps_none))]
 pub(crate) fn step<I: NonBlock>(
     driver: &mut Reads<I>,
     alloc: Global,
+    room: usize,
     flow: &mut Flow,
     reads: bool,
 ) -> Came
-    requires fits { FitsFlow (ops_in driver.old) flow.old }
+    requires roomy { IsLoad room }
+    requires fits { FitsFlow room (ops_in driver.old) flow.old }
     requires from { IsTrue (holds_all driver.old.handling.table (flow.old.from ∷ [])) }
     requires to { IsTrue (holds_all driver.old.handling.table (flow.old.to ∷ [])) }
     requires counter { driver.old.given < MOST_GIVEN }
     ensures same { (flow.new.from ≡ flow.old.from) × (flow.new.to ≡ flow.old.to) }
-    ensures flows { Flows I.view I.tells driver.old driver.new flow.old.from flow.old.to (held_in (ops_in driver.old) flow.old.stage)
+    ensures flows { Flows I.view I.tells driver.old driver.new room flow.old.from flow.old.to (held_in (ops_in driver.old) flow.old.stage)
         flow.new.stage result }
     // Where it may not receive, one that has nothing starts nothing.
     ensures quiet { reads ≡ false → IsIdle flow.old.stage → IsIdle flow.new.stage }
@@ -428,16 +378,19 @@ pub(crate) fn step<I: NonBlock>(
     ensures seen { KeepsSeen I.view I.memory driver.old driver.new }
     // Over handles in memory, where it may receive it forwards what it can.
     ensures forwards { IsTrue I.memory → reads ≡ true → CanForward I.view driver.old flow.old.from flow.old.to → result ≡ Came.Goes
-        → Forwards (world_of I.view driver.old) (world_of I.view driver.new) flow.old.from flow.old.to
+        → Forwards room (world_of I.view driver.old) (world_of I.view driver.new) flow.old.from flow.old.to
         (held_in (ops_in driver.old) flow.old.stage) (held_in (ops_in driver.new) flow.new.stage) }
 {
+    if flow.is_waiting(driver) {
+        return Came::Goes;
+    }
     let stage = mem::replace(&mut flow.stage, Stage::Idle(None));
-    let (stage, stop) = begin(driver, alloc, flow.from, flow.to, stage, reads);
+    let (stage, stop) = begin(driver, alloc, room, flow.from, flow.to, stage, reads);
     if let Some(why) = stop {
         put(&mut flow.stage, stage);
         return Came::Stopped(why);
     }
-    let (stage, came) = poll(driver, flow.from, flow.to, stage);
+    let (stage, came) = poll(driver, room, flow.from, flow.to, stage);
     put(&mut flow.stage, stage);
     came
 }
@@ -455,6 +408,17 @@ impl Flow {
         }
     }
 
+    // It waits for a call that can't be made yet.
+    fn is_waiting<I: NonBlock>(&self, driver: &Reads<I>) -> bool
+        ensures { IsTrue result → IsUnmetAt driver.now.handling.records self.now.from self.now.to self.now.stage }
+    {
+        match &self.stage {
+            Stage::Receiving(_) => is_unmet(driver, self.from, Direction::Read),
+            Stage::Sending { .. } => is_unmet(driver, self.to, Direction::Write),
+            Stage::Idle(_) | Stage::Held(_) => false,
+        }
+    }
+
     // Its next step submits an operation: a send, or a receive where those are still submitted.
     pub(crate) fn is_at_hand(&self, reads: bool) -> bool {
         match &self.stage {
@@ -467,7 +431,7 @@ impl Flow {
     // How many bytes it holds.
     #[tactic(auto, using(crate::proofs::Flows::pending_count))]
     pub(crate) fn held(&self) -> usize
-        ensures { (ops : Ops Buf) → FitsFlow ops self.now → result ≡ length (held_in ops self.now.stage) }
+        ensures { (room : ℕ) (ops : Ops Buf) → FitsFlow room ops self.now → result ≡ length (held_in ops self.now.stage) }
     {
         match &self.stage {
             Stage::Idle(_) | Stage::Receiving(_) => 0,

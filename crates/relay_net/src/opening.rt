@@ -15,14 +15,14 @@ ghost use Rattle.relay_net.specs.declared.connection.Connection.{Connection as C
 
 use crate::connection::{Connection, release};
 use crate::far::Far;
-use crate::flow::{Reads, TASK, submit};
+use crate::flow::{Reads, TASK, is_unmet, submit};
 use crate::round::RelayError;
 use crate::state::State;
 use driver_core::{Done, MOST_GIVEN, Op, PollOp};
 use handle_core::SharedFd;
+use machine::{Outcome, Request};
 use op_driver::OpDriver;
-use ready_driver::{NonBlock, NonBlockError, Sockets};
-use ring_core::{Outcome, Request};
+use ready_driver::{Direction, NonBlock, NonBlockError, Sockets};
 
 /// What an accept that was polled came to.
 pub enum Accepted {
@@ -101,16 +101,17 @@ fn hold(slot: &mut Option<Op>, op: Op)
 // Submits an accept, where none waits.
 #[tactic(auto, using(crate::proofs::Keyed::keeps_none))]
 pub(crate) fn begin_accept<I: NonBlock>(state: &mut State<I>) -> Result<(), RelayError>
-    requires sound { IsSound (ops_in state.old.driver) state.old.driver.handling.table state.old.listener state.old.accept
+    requires sound { IsSound state.old.room (ops_in state.old.driver) state.old.driver.handling.table state.old.listener state.old.accept
         state.old.open.items }
     requires counter { state.old.driver.given < MOST_GIVEN }
-    ensures sound { IsSound (ops_in state.new.driver) state.new.driver.handling.table state.new.listener state.new.accept
+    ensures sound { IsSound state.new.room (ops_in state.new.driver) state.new.driver.handling.table state.new.listener state.new.accept
         state.new.open.items }
     ensures opening { (start : LegacyState I Buf) (was : List Conn)
         → Opening I.view I.tells start was state.old.driver state.old.open.items
         → Opening I.view I.tells start was state.new.driver state.new.open.items }
     ensures stops { StopsUnless (I.view state.old.driver.handling.io) (I.view state.new.driver.handling.io) result }
     ensures same { (state.new.listener ≡ state.old.listener) × (state.new.open ≡ state.old.open) }
+    ensures asks { state.new.room ≡ state.old.room }
     ensures waits { OnOk result (IsSome state.new.accept) }
     ensures hand { OnOk result (IsTrue I.tells → (h : ℕ) → IsAtHand I.view state.old.driver h → IsAtHand I.view state.new.driver h) }
     ensures given { state.new.driver.given ≤ state.old.driver.given + 1 }
@@ -131,12 +132,12 @@ pub(crate) fn begin_accept<I: NonBlock>(state: &mut State<I>) -> Result<(), Rela
     }
 }
 
-// Polls the accept that waits, if one does. Where the next handle's number can't be new, it isn't polled.
+// Polls the accept that waits, if one does and its call can be made. Where the next handle's number can't be new, it isn't polled.
 #[tactic(auto, using(crate::proofs::Keyed::keeps_none))]
 pub(crate) fn arrive<I: Sockets>(state: &mut State<I>) -> Arrival
-    requires sound { IsSound (ops_in state.old.driver) state.old.driver.handling.table state.old.listener state.old.accept
+    requires sound { IsSound state.old.room (ops_in state.old.driver) state.old.driver.handling.table state.old.listener state.old.accept
         state.old.open.items }
-    ensures sound { IsSound (ops_in state.new.driver) state.new.driver.handling.table state.new.listener state.new.accept
+    ensures sound { IsSound state.new.room (ops_in state.new.driver) state.new.driver.handling.table state.new.listener state.new.accept
         state.new.open.items }
     ensures opening { (start : LegacyState I Buf) (was : List Conn)
         → Opening I.view I.tells start was state.old.driver state.old.open.items
@@ -146,12 +147,16 @@ pub(crate) fn arrive<I: Sockets>(state: &mut State<I>) -> Arrival
     ensures makes { IsTrue I.memory → IsSome state.old.accept → IsAtHand I.view state.old.driver state.old.listener
         → ArrivesUnless result }
     ensures same { (state.new.listener ≡ state.old.listener) × (state.new.open ≡ state.old.open) }
+    ensures asks { state.new.room ≡ state.old.room }
     ensures given { state.new.driver.given ≡ state.old.driver.given }
     ensures keyed { KeepsKeys I.view I.memory state.old.driver state.new.driver }
     ensures forwards { IsTrue I.memory → (start : LegacyState I Buf) (was : List Conn)
         → AreUntouched I.view start was state.old.driver state.old.open.items
         → AreUntouched I.view start was state.new.driver state.new.open.items }
 {
+    if is_unmet(&state.driver, state.listener, Direction::Read) {
+        return Arrival::Nothing;
+    }
     if !state.driver.has_number() {
         return Arrival::OutOfMemory;
     }
@@ -189,10 +194,10 @@ pub(crate) fn open_one<I: Sockets, F: Far<I>>(
     far: &mut F,
     near: SharedFd,
 ) -> Result<(), RelayError>
-    requires sound { IsSound (ops_in state.old.driver) state.old.driver.handling.table state.old.listener state.old.accept
+    requires sound { IsSound state.old.room (ops_in state.old.driver) state.old.driver.handling.table state.old.listener state.old.accept
         state.old.open.items }
     requires fresh { IsFresh state.old.driver.handling.table state.old.listener state.old.open.items near }
-    ensures sound { IsSound (ops_in state.new.driver) state.new.driver.handling.table state.new.listener state.new.accept
+    ensures sound { IsSound state.new.room (ops_in state.new.driver) state.new.driver.handling.table state.new.listener state.new.accept
         state.new.open.items }
     ensures opening { (start : LegacyState I Buf) (was : List Conn)
         → Opening I.view I.tells start was state.old.driver state.old.open.items
@@ -208,6 +213,7 @@ pub(crate) fn open_one<I: Sockets, F: Far<I>>(
     ensures err { OnErr result (map near_of state.new.open.items ≡ map near_of state.old.open.items) }
     ensures first { OnOk result (IsFirst (ops_in state.new.driver) state.new.open.items near) }
     ensures same { state.new.listener ≡ state.old.listener }
+    ensures asks { state.new.room ≡ state.old.room }
     ensures more { vec_len state.new.open ≤ vec_len state.old.open + 1 }
 {
     if state.open.reserve(1).is_err() {
@@ -216,7 +222,9 @@ pub(crate) fn open_one<I: Sockets, F: Far<I>>(
     }
     match far.far(&mut state.driver, near) {
         Ok(far) => {
-            state.open.push_reserved(Connection::new(near, far));
+            state
+                .open
+                .push_reserved(Connection::new(near, far, state.room));
             Ok(())
         }
         Err(why) => {

@@ -1,6 +1,6 @@
 //! The relay: it accepts connections, and passes bytes between each and its other end.
 ghost use Rattle.std.specs.Prelude.{◌≡◌, ◌≤◌, ◌<◌, ◌+◌, ◌++◌, [], true, None, List, ℕ, Ok, Err, length, map};
-ghost use Rattle.std.specs.Prelude.{◌≢◌, IsTrue, IfOk, IfErr, IsOk, OnOk, IsPermutation};
+ghost use Rattle.std.specs.Prelude.{◌≢◌, IsTrue, IfOk, IfErr, OnOk, IsPermutation};
 ghost use Rattle.std.specs.Vec.{vec_len, vec_capacity};
 ghost use Rattle.ready_driver.specs.Io.{IoView, IsLater};
 ghost use Rattle.ready_driver.specs.LegacyState.{LegacyState, ops_in};
@@ -9,6 +9,8 @@ ghost use Rattle.rent_buf.specs.declared.plain.Buf.{Buf};
 ghost use Rattle.relay_net.specs.declared.connection.Connection.{Connection as Conn};
 ghost use Rattle.relay_net.specs.Opening.{AcceptFails, IsFirst, Opening, WasOpened};
 ghost use Rattle.relay_net.specs.Forwarding.{AreUntouched, HaveForwarded};
+ghost use Rattle.relay_net.specs.declared.flow.TheConstants.{ROOM};
+ghost use Rattle.machine.specs.declared.request.TheConstants.{MOST_ASKED};
 ghost use Rattle.relay_net.specs.Keyed.{AreRegistered, HasKeys, KeepsKeys};
 ghost use Rattle.relay_net.specs.Listening.{AreGoingBut, IsAtHand, MayListen};
 ghost use Rattle.relay_net.specs.Connection.{near_of};
@@ -20,9 +22,10 @@ mod lists;
 mod memory;
 
 use crate::far::Far;
+use crate::flow::ROOM;
 use crate::opening::{Arrival, arrive, begin_accept, open_one};
 use crate::relay::ending::end_all;
-use crate::relay::lists::{Lists, no_round, no_wakers, round_with};
+use crate::relay::lists::{Lists, able_behind, finish, no_round, no_wakers, round_with};
 use crate::round::{RelayError, Round};
 use crate::state::{State, serve_all};
 use driver_core::{Driver, MOST_GIVEN, Stop};
@@ -70,10 +73,11 @@ impl<I: Sockets, F: Far<I>> Model for Relay<I, F> {
       accept = r.state.accept;
       open_ones = r.state.open.items;
       limit = r.limit;
+      room = r.state.room;
     } };
 
     ghost invariant = { λ r.
-        IsSound (ops_in r.state.driver) r.state.driver.handling.table r.state.listener r.state.accept r.state.open.items
+        IsSound r.state.room (ops_in r.state.driver) r.state.driver.handling.table r.state.listener r.state.accept r.state.open.items
         × (vec_len r.state.open ≤ r.limit) × (r.limit ≤ 64) × AreEmpty r.lists
         × (IsTrue I.tells → AreMarked (I.view r.state.driver.handling.io).world r.state.open.items) };
 }
@@ -108,9 +112,9 @@ fn turn<R: Wait + Clock, I: Sockets, P: Ledger, D: Ledger>(
     again: bool,
     able: usize,
 ) -> (Woken, Result<(), RelayError>)
-    requires sound { IsSound (ops_in state.old.driver) state.old.driver.handling.table state.old.listener state.old.accept
+    requires sound { IsSound state.old.room (ops_in state.old.driver) state.old.driver.handling.table state.old.listener state.old.accept
         state.old.open.items }
-    ensures sound { IsSound (ops_in state.new.driver) state.new.driver.handling.table state.new.listener state.new.accept
+    ensures sound { IsSound state.new.room (ops_in state.new.driver) state.new.driver.handling.table state.new.listener state.new.accept
         state.new.open.items }
     ensures opening { Opening I.view I.tells state.old.driver state.old.open.items state.new.driver state.new.open.items }
     ensures stops { StopsUnless (I.view state.old.driver.handling.io) (I.view state.new.driver.handling.io) result.1 }
@@ -118,6 +122,7 @@ fn turn<R: Wait + Clock, I: Sockets, P: Ledger, D: Ledger>(
     ensures hand { OnOk result.1 (IsTrue I.memory → MayListen I.view state.old.driver state.old.listener
         → IsAtHand I.view state.new.driver state.old.listener) }
     ensures same { (state.new.listener ≡ state.old.listener) × (state.new.open ≡ state.old.open) }
+    ensures asks { state.new.room ≡ state.old.room }
     ensures given { state.new.driver.given ≡ state.old.driver.given }
     ensures keyed { KeepsKeys I.view I.memory state.old.driver state.new.driver }
     ensures forwards { OnOk result.1 (IsTrue I.memory → HasKeys I.view state.old.driver.handling
@@ -145,13 +150,13 @@ fn accept<I: Sockets, F: Far<I>>(
     limit: usize,
     lists: &mut Lists,
 ) -> Result<(), RelayError>
-    requires sound { IsSound (ops_in state.old.driver) state.old.driver.handling.table state.old.listener state.old.accept
+    requires sound { IsSound state.old.room (ops_in state.old.driver) state.old.driver.handling.table state.old.listener state.old.accept
         state.old.open.items }
     requires counter { state.old.driver.given < MOST_GIVEN }
     requires room { vec_len lists.old.opened < vec_capacity lists.old.opened }
     requires none { (lists.old.opened.items ≡ []) × (lists.old.accept ≡ None) }
     requires places { vec_len state.old.open ≤ limit }
-    ensures sound { IsSound (ops_in state.new.driver) state.new.driver.handling.table state.new.listener state.new.accept
+    ensures sound { IsSound state.new.room (ops_in state.new.driver) state.new.driver.handling.table state.new.listener state.new.accept
         state.new.open.items }
     ensures opening { (start : LegacyState I Buf) (was : List Conn)
         → Opening I.view I.tells start was state.old.driver state.old.open.items
@@ -175,6 +180,7 @@ fn accept<I: Sockets, F: Far<I>>(
     ensures grows { lists.new.opened.items ≢ []
         → (I.view state.old.driver.handling.io).made < (I.view state.new.driver.handling.io).made }
     ensures same { state.new.listener ≡ state.old.listener }
+    ensures asks { state.new.room ≡ state.old.room }
 {
     if state.open.len() >= limit {
         return Ok(());
@@ -203,7 +209,7 @@ fn work<I: Sockets, F: Far<I>>(
     alloc: Global,
     lists: &mut Lists,
 ) -> Result<(), RelayError>
-    requires sound { IsSound (ops_in state.old.driver) state.old.driver.handling.table state.old.listener state.old.accept
+    requires sound { IsSound state.old.room (ops_in state.old.driver) state.old.driver.handling.table state.old.listener state.old.accept
         state.old.open.items }
     requires limit { limit ≤ 64 }
     requires places { vec_len state.old.open ≤ limit }
@@ -214,7 +220,7 @@ fn work<I: Sockets, F: Far<I>>(
     requires len { (vec_len lists.old.ended.closed ≡ 0) × (vec_len lists.old.ended.failed ≡ 0) }
     requires closed { vec_len state.old.open + 1 ≤ vec_capacity lists.old.ended.closed }
     requires failed { vec_len state.old.open + 1 ≤ vec_capacity lists.old.ended.failed }
-    ensures sound { IsSound (ops_in state.new.driver) state.new.driver.handling.table state.new.listener state.new.accept
+    ensures sound { IsSound state.new.room (ops_in state.new.driver) state.new.driver.handling.table state.new.listener state.new.accept
         state.new.open.items }
     ensures serving { (start : LegacyState I Buf) (was : List Conn)
         → Opening I.view I.tells start was state.old.driver state.old.open.items
@@ -243,6 +249,7 @@ fn work<I: Sockets, F: Far<I>>(
     ensures closes { IsTrue I.tells → AreGoing I.view state.old.driver state.old.listener state.old.open.items
         → lists.new.ended.closed.items ≡ [] }
     ensures same { state.new.listener ≡ state.old.listener }
+    ensures asks { state.new.room ≡ state.old.room }
 {
     accept(state, far, limit, lists)?;
     serve_all(state, alloc, &mut lists.ended)
@@ -258,7 +265,7 @@ fn behind<I: Sockets, F: Far<I>>(
     lists: &mut Lists,
     turned: Result<(), RelayError>,
 ) -> Result<(), RelayError>
-    requires sound { IsSound (ops_in state.old.driver) state.old.driver.handling.table state.old.listener state.old.accept
+    requires sound { IsSound state.old.room (ops_in state.old.driver) state.old.driver.handling.table state.old.listener state.old.accept
         state.old.open.items }
     requires limit { limit ≤ 64 }
     requires places { vec_len state.old.open ≤ limit }
@@ -269,7 +276,7 @@ fn behind<I: Sockets, F: Far<I>>(
     requires len { (vec_len lists.old.ended.closed ≡ 0) × (vec_len lists.old.ended.failed ≡ 0) }
     requires closed { vec_len state.old.open + 1 ≤ vec_capacity lists.old.ended.closed }
     requires failed { vec_len state.old.open + 1 ≤ vec_capacity lists.old.ended.failed }
-    ensures sound { IsSound (ops_in state.new.driver) state.new.driver.handling.table state.new.listener state.new.accept
+    ensures sound { IsSound state.new.room (ops_in state.new.driver) state.new.driver.handling.table state.new.listener state.new.accept
         state.new.open.items }
     ensures serving { (start : LegacyState I Buf) (was : List Conn)
         → Opening I.view I.tells start was state.old.driver state.old.open.items
@@ -299,6 +306,7 @@ fn behind<I: Sockets, F: Far<I>>(
     ensures closes { IsTrue I.tells → AreGoing I.view state.old.driver state.old.listener state.old.open.items
         → lists.new.ended.closed.items ≡ [] }
     ensures same { state.new.listener ≡ state.old.listener }
+    ensures asks { state.new.room ≡ state.old.room }
 {
     match turned {
         Ok(()) => work(state, far, limit, alloc, lists),
@@ -306,30 +314,9 @@ fn behind<I: Sockets, F: Far<I>>(
     }
 }
 
-// How many connections, from the lowest on, may go on behind a round that came to this: where it ran out of memory, those in front of the
-// connection that it reached.
-fn able_behind(worked: &Result<(), RelayError>, reached: usize, limit: usize) -> usize {
-    match worked {
-        Err(RelayError::OutOfMemory) => reached,
-        _ => limit,
-    }
-}
-
-// A round that came to this.
-fn finish(worked: Result<(), RelayError>, round: Round) -> Result<Round, (RelayError, Round)>
-    ensures round { round_of result ≡ round }
-    ensures works { OnOk result (IsOk worked) }
-    ensures stops { (old new : IoView) → StopsUnless old new worked → RoundStops old new result }
-{
-    match worked {
-        Ok(()) => Ok(round),
-        Err(why) => Err((why, round)),
-    }
-}
-
 impl<I: Sockets, F: Far<I>> Relay<I, F> {
     /// A relay that accepts at a handle that listens, and has so many connections open at most, 1 to 64. Their other ends are given by
-    /// `far`. Where memory runs out the driver comes back. (not in monoio)
+    /// `far`. A receive asks for `ROOM` bytes. Where memory runs out the driver comes back. (not in monoio)
     pub fn new(
         alloc: Global,
         driver: LegacyDriver<I, Buf>,
@@ -340,7 +327,27 @@ impl<I: Sockets, F: Far<I>> Relay<I, F> {
         requires held { is_users driver.handling.table listener ≡ true }
         requires limit { limit ≤ 64 }
         ensures ok { IfOk result (λ relay. relay ≡
-            record { driver = driver; listener = listener; accept = None; open_ones = []; limit = limit }) }
+            record { driver = driver; listener = listener; accept = None; open_ones = []; limit = limit; room = ROOM }) }
+        ensures err { IfErr result (λ refused. refused.1 ≡ driver) }
+    {
+        Relay::with_room(alloc, driver, listener, limit, ROOM, far)
+    }
+
+    /// The same, of which a receive asks for so many bytes: one at least, and no more than one request asks for, `MOST_ASKED`. A connection
+    /// takes twice that memory at most. (not in monoio)
+    pub fn with_room(
+        alloc: Global,
+        driver: LegacyDriver<I, Buf>,
+        listener: SharedFd,
+        limit: u32,
+        room: usize,
+        far: F,
+    ) -> Result<Relay<I, F>, (OutOfMemory, LegacyDriver<I, Buf>)>
+        requires held { is_users driver.handling.table listener ≡ true }
+        requires limit { limit ≤ 64 }
+        requires room { (1 ≤ room) × (room ≤ MOST_ASKED) }
+        ensures ok { IfOk result (λ relay. relay ≡
+            record { driver = driver; listener = listener; accept = None; open_ones = []; limit = limit; room = room }) }
         ensures err { IfErr result (λ refused. refused.1 ≡ driver) }
     {
         let limit = limit as usize;
@@ -351,6 +358,7 @@ impl<I: Sockets, F: Far<I>> Relay<I, F> {
                     listener,
                     accept: None,
                     open,
+                    room,
                 },
                 limit,
                 far,
@@ -370,11 +378,13 @@ impl<I: Sockets, F: Far<I>> Relay<I, F> {
         &self.state.driver
     }
 
-    /// How many connections are open. Where the object tells its handles, each of them is ending only where one of its handles, if it is a
-    /// stream, has an empty input and a marked end. (not in monoio)
+    /// How many connections are open. A receive of each asks for as many bytes as the relay's receives do. Where the object tells its
+    /// handles, each of them is ending only where one of its handles, if it is a stream, has an empty input and a marked end. (not in
+    /// monoio)
     pub fn connections(&self) -> usize
         ensures value { result ≡ length self.now.open_ones }
         ensures marked { IsTrue I.tells → AreMarked (I.view self.now.driver.handling.io).world self.now.open_ones }
+        ensures rooms { (conn : Conn) → IsAmong self.now.open_ones conn → conn.room ≡ self.now.room }
     {
         self.state.open.len()
     }
@@ -402,8 +412,8 @@ impl<I: Sockets, F: Far<I>> Relay<I, F> {
     /// that it opened, is open still, was closed or failed; at an error too, which says why the round stopped: then the next one goes on.
     /// At most 129 operations are submitted. The handle of an accepted connection that gets no other end is released. (not in monoio)
     ///
-    /// It doesn't wait either where a direction is to receive or has bytes to send, or where the round before ended a connection and left no
-    /// accept that waits: so one round may follow another, each with a wait, and no byte waits for that.
+    /// It doesn't wait either where a direction is to receive or has bytes to send, or where the round before ended a connection and left
+    /// no accept that waits: so one round may follow another, each with a wait, and no byte waits for that.
     pub fn round<R: Wait + Clock, P: Ledger, D: Ledger>(
         &mut self,
         rt: &R,
@@ -427,19 +437,20 @@ impl<I: Sockets, F: Far<I>> Relay<I, F> {
             → AreRegistered I.view self.new.driver self.new.listener self.new.open_ones }
         // Over handles in memory, where each handle that somebody holds is registered, a round that is Ok forwards what it can: of each
         // connection that was open, is open still and isn't ending, whose handles are streams, what a direction held has joined the output
-        // of its second handle; and one that held nothing holds now what waited at its first handle, 4096 bytes at most.
+        // of its second handle; and one that held nothing holds now what waited at its first handle, as many bytes at most as a receive
+        // asks for.
         ensures forwards { OnOk result (IsTrue I.memory → HasKeys I.view self.old.driver.handling
             → HaveForwarded I.view self.old.driver self.old.open_ones self.new.driver self.new.open_ones) }
         // Where it opens one, the object's count of handles rises in it; it never falls.
         ensures grows { (round_of result).opened ≢ []
             → (I.view self.old.driver.handling.io).made < (I.view self.new.driver.handling.io).made }
-        // It opens one at most.
         ensures one { length (round_of result).opened ≤ 1 }
         ensures order { (I.view self.old.driver.handling.io).made ≤ (I.view self.new.driver.handling.io).made }
         // Where each handle but the listener is a stream whose end isn't marked, it closes none.
         ensures closes { IsTrue I.tells → AreGoingBut self.old.listener (I.view self.old.driver.handling.io).world
             → (round_of result).closed ≡ [] }
         ensures same { (self.new.listener ≡ self.old.listener) × (self.new.limit ≡ self.old.limit) }
+        ensures asks { self.new.room ≡ self.old.room }
         ensures few { length self.new.open_ones ≤ self.new.limit }
     {
         if self.lists.reserve(self.state.open.len() + 1).is_err() {

@@ -27,6 +27,8 @@ pub(crate) struct State<I: NonBlock> {
     pub(crate) listener: SharedFd,
     pub(crate) accept: Option<Op>,
     pub(crate) open: Vec<Connection>,
+    // How many bytes a receive asks for.
+    pub(crate) room: usize,
 }
 
 impl<I: NonBlock> State<I> {
@@ -74,12 +76,12 @@ impl Ended {
 
 // A round of the connection at a place.
 fn serve_one<I: NonBlock>(state: &mut State<I>, alloc: Global, at: usize) -> Served
-    requires sound { IsSound (ops_in state.old.driver) state.old.driver.handling.table state.old.listener state.old.accept
+    requires sound { IsSound state.old.room (ops_in state.old.driver) state.old.driver.handling.table state.old.listener state.old.accept
         state.old.open.items }
     requires there { at < vec_len state.old.open }
     requires placed { at < length state.old.open.items }
     requires counter { state.old.driver.given + 1 < MOST_GIVEN }
-    ensures sound { IsSound (ops_in state.new.driver) state.new.driver.handling.table state.new.listener state.new.accept
+    ensures sound { IsSound state.new.room (ops_in state.new.driver) state.new.driver.handling.table state.new.listener state.new.accept
         state.new.open.items }
     ensures serving { (start : LegacyState I Buf) (was : List Conn) (closed : List ℕ) (failed : List LostOne)
         → Serving I.view I.tells start was state.old.driver state.old.open.items closed failed
@@ -89,6 +91,7 @@ fn serve_one<I: NonBlock>(state: &mut State<I>, alloc: Global, at: usize) -> Ser
     ensures later { IsLater (I.view state.old.driver.handling.io) (I.view state.new.driver.handling.io) }
     ensures cause { ServedFor (I.view state.old.driver.handling.io) (I.view state.new.driver.handling.io) result }
     ensures same { (state.new.listener ≡ state.old.listener) × (state.new.accept ≡ state.old.accept) }
+    ensures asks { state.new.room ≡ state.old.room }
     ensures len { vec_len state.new.open ≡ vec_len state.old.open }
     ensures given { state.new.driver.given ≤ state.old.driver.given + 2 }
     ensures keyed { KeepsKeys I.view I.memory state.old.driver state.new.driver }
@@ -103,19 +106,20 @@ fn serve_one<I: NonBlock>(state: &mut State<I>, alloc: Global, at: usize) -> Ser
 
 // Closes the connection at a place, which is over.
 fn close_at<I: NonBlock>(state: &mut State<I>, at: usize, ended: &mut Ended)
-    requires sound { IsSound (ops_in state.old.driver) state.old.driver.handling.table state.old.listener state.old.accept
+    requires sound { IsSound state.old.room (ops_in state.old.driver) state.old.driver.handling.table state.old.listener state.old.accept
         state.old.open.items }
     requires there { at < vec_len state.old.open }
     requires placed { at < length state.old.open.items }
     requires over { (conn : Conn) → slice_get state.old.open.items at ≡ Some conn → IsOver (ops_in state.old.driver) conn }
     requires room { vec_len ended.old.closed < vec_capacity ended.old.closed }
-    ensures sound { IsSound (ops_in state.new.driver) state.new.driver.handling.table state.new.listener state.new.accept
+    ensures sound { IsSound state.new.room (ops_in state.new.driver) state.new.driver.handling.table state.new.listener state.new.accept
         state.new.open.items }
     ensures serving { (start : LegacyState I Buf) (was : List Conn)
         → Serving I.view I.tells start was state.old.driver state.old.open.items ended.old.closed.items ended.old.failed.items
         → Serving I.view I.tells start was state.new.driver state.new.open.items ended.new.closed.items ended.new.failed.items }
     ensures later { IsLater (I.view state.old.driver.handling.io) (I.view state.new.driver.handling.io) }
     ensures same { (state.new.listener ≡ state.old.listener) × (state.new.accept ≡ state.old.accept) }
+    ensures asks { state.new.room ≡ state.old.room }
     ensures len { vec_len state.new.open + 1 ≡ vec_len state.old.open }
     ensures given { state.new.driver.given ≡ state.old.driver.given }
     ensures keyed { KeepsKeys I.view I.memory state.old.driver state.new.driver }
@@ -135,12 +139,12 @@ fn close_at<I: NonBlock>(state: &mut State<I>, at: usize, ended: &mut Ended)
 
 // Ends the connection at a place, an operation of which failed with this number.
 fn lose_at<I: NonBlock>(state: &mut State<I>, at: usize, fault: u16, ended: &mut Ended)
-    requires sound { IsSound (ops_in state.old.driver) state.old.driver.handling.table state.old.listener state.old.accept
+    requires sound { IsSound state.old.room (ops_in state.old.driver) state.old.driver.handling.table state.old.listener state.old.accept
         state.old.open.items }
     requires there { at < vec_len state.old.open }
     requires placed { at < length state.old.open.items }
     requires room { vec_len ended.old.failed < vec_capacity ended.old.failed }
-    ensures sound { IsSound (ops_in state.new.driver) state.new.driver.handling.table state.new.listener state.new.accept
+    ensures sound { IsSound state.new.room (ops_in state.new.driver) state.new.driver.handling.table state.new.listener state.new.accept
         state.new.open.items }
     ensures serving { (start : LegacyState I Buf) (was : List Conn)
         → Rose (I.view start.handling.io).fails (I.view state.old.driver.handling.io).fails
@@ -148,6 +152,7 @@ fn lose_at<I: NonBlock>(state: &mut State<I>, at: usize, fault: u16, ended: &mut
         → Serving I.view I.tells start was state.new.driver state.new.open.items ended.new.closed.items ended.new.failed.items }
     ensures later { IsLater (I.view state.old.driver.handling.io) (I.view state.new.driver.handling.io) }
     ensures same { (state.new.listener ≡ state.old.listener) × (state.new.accept ≡ state.old.accept) }
+    ensures asks { state.new.room ≡ state.old.room }
     ensures len { vec_len state.new.open + 1 ≡ vec_len state.old.open }
     ensures given { state.new.driver.given ≡ state.old.driver.given }
     ensures keyed { KeepsKeys I.view I.memory state.old.driver state.new.driver }
@@ -175,14 +180,14 @@ fn serve_at<I: NonBlock>(
     at: usize,
     ended: &mut Ended,
 ) -> Result<bool, RelayError>
-    requires sound { IsSound (ops_in state.old.driver) state.old.driver.handling.table state.old.listener state.old.accept
+    requires sound { IsSound state.old.room (ops_in state.old.driver) state.old.driver.handling.table state.old.listener state.old.accept
         state.old.open.items }
     requires there { at < vec_len state.old.open }
     requires placed { at < length state.old.open.items }
     requires counter { state.old.driver.given + 1 < MOST_GIVEN }
     requires closed { vec_len ended.old.closed < vec_capacity ended.old.closed }
     requires failed { vec_len ended.old.failed < vec_capacity ended.old.failed }
-    ensures sound { IsSound (ops_in state.new.driver) state.new.driver.handling.table state.new.listener state.new.accept
+    ensures sound { IsSound state.new.room (ops_in state.new.driver) state.new.driver.handling.table state.new.listener state.new.accept
         state.new.open.items }
     ensures serving { (start : LegacyState I Buf) (was : List Conn)
         → Serving I.view I.tells start was state.old.driver state.old.open.items ended.old.closed.items ended.old.failed.items
@@ -190,6 +195,7 @@ fn serve_at<I: NonBlock>(
     ensures later { IsLater (I.view state.old.driver.handling.io) (I.view state.new.driver.handling.io) }
     ensures stops { StopsUnless (I.view state.old.driver.handling.io) (I.view state.new.driver.handling.io) result }
     ensures same { (state.new.listener ≡ state.old.listener) × (state.new.accept ≡ state.old.accept) }
+    ensures asks { state.new.room ≡ state.old.room }
     ensures names { IsPermutation (connections_in state.new.open.items ended.new.closed.items ended.new.failed.items)
         (connections_in state.old.open.items ended.old.closed.items ended.old.failed.items) }
     ensures len { IfOk result (λ goes. GoesOn goes (vec_len state.old.open) (vec_len state.new.open)) }
@@ -227,18 +233,19 @@ pub(crate) fn serve_all<I: NonBlock>(
     alloc: Global,
     ended: &mut Ended,
 ) -> Result<(), RelayError>
-    requires sound { IsSound (ops_in state.old.driver) state.old.driver.handling.table state.old.listener state.old.accept
+    requires sound { IsSound state.old.room (ops_in state.old.driver) state.old.driver.handling.table state.old.listener state.old.accept
         state.old.open.items }
     requires counter { state.old.driver.given + 2 * vec_len state.old.open ≤ MOST_GIVEN }
     requires closed { vec_len ended.old.closed + vec_len state.old.open ≤ vec_capacity ended.old.closed }
     requires failed { vec_len ended.old.failed + vec_len state.old.open ≤ vec_capacity ended.old.failed }
-    ensures sound { IsSound (ops_in state.new.driver) state.new.driver.handling.table state.new.listener state.new.accept
+    ensures sound { IsSound state.new.room (ops_in state.new.driver) state.new.driver.handling.table state.new.listener state.new.accept
         state.new.open.items }
     ensures serving { (start : LegacyState I Buf) (was : List Conn)
         → Serving I.view I.tells start was state.old.driver state.old.open.items ended.old.closed.items ended.old.failed.items
         → Serving I.view I.tells start was state.new.driver state.new.open.items ended.new.closed.items ended.new.failed.items }
     ensures stops { StopsUnless (I.view state.old.driver.handling.io) (I.view state.new.driver.handling.io) result }
     ensures same { (state.new.listener ≡ state.old.listener) × (state.new.accept ≡ state.old.accept) }
+    ensures asks { state.new.room ≡ state.old.room }
     ensures names { IsPermutation (connections_in state.new.open.items ended.new.closed.items ended.new.failed.items)
         (connections_in state.old.open.items ended.old.closed.items ended.old.failed.items) }
     ensures later { IsLater (I.view state.old.driver.handling.io) (I.view state.new.driver.handling.io) }

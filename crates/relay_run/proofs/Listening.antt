@@ -5,10 +5,10 @@ use Rattle.std.specs.Prelude.{is_some, slice_get}
 use Rattle.std.specs.FinMap as map
 use Rattle.rent_buf.specs.Counts.{Rose}
 use Rattle.handle_core.specs.Table.{by_user}
-use Rattle.ring_core.specs.World.{fresh}
-use Rattle.ring_core.specs.declared.world.HandleKind.TheVariants.{Listener, Stream}
-use Rattle.ring_core.specs.declared.world.HandleState.{HandleState}
-use Rattle.ring_core.proofs.Numbers.{same-or-not}
+use Rattle.machine.specs.World.{fresh}
+use Rattle.machine.specs.declared.world.HandleKind.TheVariants.{Listener, Stream}
+use Rattle.machine.specs.declared.world.HandleState.{HandleState}
+use Rattle.machine.proofs.Numbers.{same-or-not}
 use Rattle.driver_core.proofs.Maps.{put-other}
 use Rattle.ready_driver.specs.Dialing.{IsOpened, IsUnopened}
 use Rattle.ready_driver.specs.Io.{IoView, IsLater}

@@ -4,7 +4,7 @@ use Rattle.std.proofs.Common.{List, [], ◌∷◌, ◌++◌, length, length-appe
 use Rattle.std.specs.Prelude.{IsPermutation, map, min}
 use Rattle.std.proofs.lemmas.List.{length-map}
 use Rattle.std.proofs.lemmas.List.Sorted.{length_permutation}
-use Rattle.ring_core.proofs.Numbers.{below-or-not}
+use Rattle.machine.proofs.Numbers.{below-or-not}
 use Rattle.ready_driver.specs.Io.{IoView}
 use Rattle.relay_net.specs.Connection.{near_of}
 use Rattle.relay_net.specs.Keeping.{world_of}

@@ -6,6 +6,7 @@ use Rattle.ready_driver.specs.Io.{IoView, IsLater}
 use Rattle.ready_driver.specs.LegacyState.{LegacyState}
 use Rattle.relay_net.specs.Keeping.{StopsFor}
 use Rattle.relay_net.specs.Relaying.{Relaying}
+use Rattle.relay_net.specs.declared.flow.TheConstants.{ROOM}
 use Rattle.relay_net.specs.declared.round.RelayError.{RelayError}
 use Rattle.relay_net.specs.declared.round.RelayError.TheVariants as relay_error
 use Rattle.relay_run.specs.Relaying.{HasListened, MakesRounds, RunsOver, ended_by, made_of}
@@ -15,7 +16,7 @@ use Rattle.relay_run.proofs.Rounds.{rounds_behind, rounds_made, rounds_none}
 -- A relay that has no connection yet.
 abbrev pub first_relay : {I : Type 0} → LegacyState I Buf → ℕ → ℕ → Relaying I
 first_relay driver listener limit =
-    record { driver = driver; listener = listener; accept = None; open_ones = []; limit = limit }
+    record { driver = driver; listener = listener; accept = None; open_ones = []; limit = limit; room = ROOM }
 
 -- Its rounds were made, or one stopped them, and then its object came back.
 pub rounds_run : {I : Type 0} (view : I → IoView) (tells memory : Bool) (before end : IoView) (driver : LegacyState I Buf)

@@ -2,9 +2,9 @@
 ghost use Rattle.std.specs.Prelude.{◌≡◌, ℕ};
 
 use driver_core::{CallAnswer, Calls};
+use machine::{Outcome, Request};
 use ready_driver::{NonBlock, NonBlockError, Reports, Sockets};
 use rent_buf::{IoBufMut, VecBuf};
-use ring_core::{Outcome, Request};
 use std::marker::{Brand, PhantomData};
 use wake_core::Bell;
 

@@ -7,8 +7,9 @@ use Rattle.std.proofs.lemmas.Option.{slice_get_within}
 use Rattle.std.proofs.Math.ListN.{length-set}
 use Rattle.std.proofs.lemmas.List.{length-append}
 use Rattle.ring_core.specs.declared.ranks.TheConstants.{WIDTH}
-use Rattle.ring_core.specs.Lists.{amended}
-use Rattle.ring_core.specs.Ranks.{one_if, kept_first, sum_first, AreSums, AreCounted, less_one}
+use Rattle.machine.specs.Lists.{amended}
+use Rattle.machine.specs.Lists.{one_if}
+use Rattle.ring_core.specs.Ranks.{kept_first, sum_first, AreSums, AreCounted, less_one}
 
 -- 1 where a place is among the first n, else 0.
 abbrev pub among : ℕ → ℕ → ℕ

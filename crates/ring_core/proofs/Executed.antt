@@ -1,13 +1,13 @@
 -- An execution, from the steps that it consists of.
 use Rattle.std.proofs.Common.{◌≡◌, ℕ, false, List, [], ◌∷◌, ◌++◌, Some, slice_get, take, drop, remove, refl, sym, ◌∙◌, ap, subst}
 use Rattle.std.proofs.Common.{append_assoc}
-use Rattle.ring_core.specs.declared.world.HandleState.{HandleState}
+use Rattle.machine.specs.declared.world.HandleState.{HandleState}
 use Rattle.ring_core.specs.declared.entry.Flight.{Flight}
-use Rattle.ring_core.specs.declared.entry.Completion.{Completion}
-use Rattle.ring_core.specs.declared.request.Told.{Told}
-use Rattle.ring_core.specs.declared.request.Outcome.{Outcome}
+use Rattle.machine.specs.declared.completion.Completion.{Completion}
+use Rattle.machine.specs.declared.request.Told.{Told}
+use Rattle.machine.specs.declared.request.Outcome.{Outcome}
 use Rattle.ring_core.specs.Ring.{RingView}
-use Rattle.ring_core.specs.Called.{body_effect, IsRun}
+use Rattle.ring_core.specs.Bodies.{body_effect, IsCarriedOut}
 use Rattle.ring_core.specs.MemRing.{completion_of, completed, broken, taken_along, flying_left, IsExecuted}
 use Rattle.ring_core.specs.declared.entry.Entry.{Entry}
 use Rattle.ring_core.specs.Bound.{AreLed, left_behind}
@@ -18,7 +18,7 @@ use Rattle.ring_core.proofs.Leading.{ends-alone}
 pub run-executed : {P : Type 0} (offered : P → ℕ → List ℕ) (stores : P → ℕ → List ℕ → P → Type 0) (old new : RingView)
     (world : List HandleState) (place : ℕ) (told : Told) (before after : P) (flight : Flight) (outcome : Outcome)
     (completion : Completion) → slice_get old.flying place ≡ Some flight → flight.bound ≡ false →
-    IsRun stores flight told (offered before flight.entry.word) old.world world before after outcome →
+    IsCarriedOut stores flight told (offered before flight.entry.word) old.world world before after outcome →
     new ≡ completed (record old { world = world }) place flight.entry outcome → completion ≡ completion_of flight.entry outcome →
     IsExecuted offered stores old place told new before after completion
 run-executed offered stores old new world place told before after flight outcome completion there free ran new_is completion_is =

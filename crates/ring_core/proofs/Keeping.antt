@@ -1,18 +1,19 @@
 -- What stands on the slots that are kept.
 use Rattle.std.proofs.Common.{◌≡◌, ◌≢◌, inl, inr, ℕ, zero, suc, ◌+◌, ◌<◌, ◌≤◌, Bool, true, false, List, [], ◌∷◌, ◌++◌, map, length, take}
 use Rattle.std.proofs.Common.{drop, remove, replicate, get_or, set, Some, slice_get, refl, sym, ◌∙◌, ap, subst, arith, true≢false}
-use Rattle.std.specs.Prelude.{◌==◌, ◌||◌}
+use Rattle.std.specs.Prelude.{◌==◌}
 use Rattle.std.proofs.lemmas.Option.{slice_get_within}
 use Rattle.std.proofs.lemmas.List.{drop-set-lt, append_assoc, length-replicate}
 use Rattle.std.proofs.Math.Seq.{take-suc-set}
 use Rattle.ring_core.specs.declared.entry.Flight.{Flight}
-use Rattle.ring_core.specs.Lists.{amended}
+use Rattle.machine.specs.Lists.{amended}
 use Rattle.ring_core.specs.Ring.{marked_by}
 use Rattle.ring_core.specs.Ranks.{kept_first, is_kept, kept}
 use Rattle.ring_core.specs.declared.links.TheConstants.{FAR, SEVERAL}
 use Rattle.ring_core.specs.Flights.{InFlight, words_of}
 use Rattle.ring_core.specs.Links.{Linked, AreLinked}
-use Rattle.ring_core.proofs.Numbers.{equal-other, same-or-not}
+use Rattle.machine.proofs.Appended.{drop-suc}
+use Rattle.machine.proofs.Numbers.{equal-other, same-or-not, or-false}
 
 -- As many stand on kept slots as slots are kept.
 pub length-kept : {A : Type 0} (flags : List Bool) (xs : List A) → length xs ≡ length flags →
@@ -72,11 +73,6 @@ kept-map f [] xs = refl
 kept-map f (b ∷ flags) [] = refl
 kept-map f (true ∷ flags) (x ∷ xs) = ap (λ ys. f x ∷ ys) (kept-map f flags xs)
 kept-map f (false ∷ flags) (x ∷ xs) = kept-map f flags xs
-
--- A flag stays where nothing is added.
-pub or-false : (a b : Bool) → b ≡ false → (a || b) ≡ a
-or-false true b e = refl
-or-false false b e = e
 
 -- What has another word isn't marked.
 marked-other : (w : ℕ) (x : Flight) → x.entry.word ≢ w → marked_by w x ≡ x
@@ -184,12 +180,6 @@ pub tested-gone : (flags : List Bool) (slot : ℕ) → slot < length flags → i
 tested-gone [] slot within test = absurd (omega arith)
 tested-gone (f ∷ flags) zero within test = ap Some test
 tested-gone (f ∷ flags) (suc slot) within test = tested-gone flags slot (omega arith) test
-
--- The elements from a place on begin with the one that is there.
-pub drop-suc : {A : Type 0} (xs : List A) (i : ℕ) (x : A) → slice_get xs i ≡ Some x → drop i xs ≡ x ∷ drop (suc i) xs
-drop-suc [] i x here = cc
-drop-suc (y ∷ xs) zero x here = let same : y ≡ x = cc in ap (λ z. z ∷ xs) same
-drop-suc (y ∷ xs) (suc i) x here = drop-suc xs i x here
 
 -- The same, as code writes it.
 drop-get : {A : Type 0} (xs : List A) (i : ℕ) (x : A) → slice_get xs i ≡ Some x → drop i xs ≡ x ∷ drop (i + 1) xs

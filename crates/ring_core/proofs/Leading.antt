@@ -1,8 +1,8 @@
 -- The leaders of bound entries, as entries are taken and end.
 use Rattle.std.proofs.Common.{◌≡◌, ℕ, zero, suc, Bool, true, false, List, [], ◌∷◌, ◌++◌, map, take, drop, remove, Some, slice_get}
 use Rattle.std.proofs.Common.{refl, sym, ◌∙◌, ap, subst, true≢false, if◌then◌else◌}
-use Rattle.ring_core.specs.declared.request.Outcome.{Outcome}
-use Rattle.ring_core.specs.declared.request.Outcome.TheVariants.{Count, From, Made, Fail}
+use Rattle.machine.specs.declared.request.Outcome.{Outcome}
+use Rattle.machine.specs.declared.request.Outcome.TheVariants.{Count, From, Made, Fail}
 use Rattle.ring_core.specs.declared.entry.Entry.{Entry}
 use Rattle.ring_core.specs.declared.entry.Body.{Body}
 use Rattle.ring_core.specs.declared.entry.Body.TheVariants.{Call as Calls, Cancel as Cancels, Close as Closes}

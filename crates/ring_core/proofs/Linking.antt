@@ -4,7 +4,7 @@ use Rattle.std.proofs.Common.{slice_get, refl, sym, ◌∙◌, ap, arith}
 use Rattle.std.proofs.lemmas.List.{get_or-set_same, get_or-set_other, length-set}
 use Rattle.ring_core.specs.declared.links.TheConstants.{FAR}
 use Rattle.ring_core.specs.Links.{Linked, LinksTo, AreLinked, NextLinkFor, Lengthens}
-use Rattle.ring_core.proofs.Numbers.{below-or-not, same-or-not}
+use Rattle.machine.proofs.Numbers.{below-or-not, same-or-not}
 
 -- Some links, where each word that is kept has its own, or not.
 abbrev pub linked_by : List ℕ → Bool → Linked

@@ -1,7 +1,8 @@
 -- Data words, and what they name.
 use Rattle.std.proofs.Common.{◌≡◌, ℕ, ◌<◌, refl, arith}
 use Rattle.std.proofs.lemmas.Bool.Decides.{nat_tests}
-use Rattle.ring_core.specs.declared.entry.TheConstants.{FIRST_CLOSE, MOST_HANDLES, CANCEL_WORD}
+use Rattle.machine.specs.declared.world.TheConstants.{MOST_HANDLES}
+use Rattle.ring_core.specs.declared.entry.TheConstants.{FIRST_CLOSE, CANCEL_WORD}
 use Rattle.ring_core.specs.declared.entry.Target.TheVariants.{Slot, Handle, Reserved}
 use Rattle.ring_core.specs.Entry.{target, close_word}
 

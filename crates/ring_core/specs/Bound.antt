@@ -1,13 +1,13 @@
 -- Bound entries in flight: each waits for the linked call directly before it. Cited by `MemRing` and `Flights`.
 use Rattle.std.specs.Prelude.{ℕ, suc, ◌≡◌, Bool, true, false, if◌then◌else◌, List, [], ◌∷◌, ◌++◌, take, drop, remove, map, slice_get}
 use Rattle.std.specs.Prelude.{Option, Some, None}
-use Rattle.ring_core.specs.declared.request.TheConstants.{CANCELED}
-use Rattle.ring_core.specs.declared.request.Outcome.{Outcome}
-use Rattle.ring_core.specs.declared.request.Outcome.TheVariants.{Count, From, Made, Fail}
+use Rattle.machine.specs.declared.request.TheConstants.{CANCELED}
+use Rattle.machine.specs.declared.request.Outcome.{Outcome}
+use Rattle.machine.specs.declared.request.Outcome.TheVariants.{Count, From, Made, Fail}
 use Rattle.ring_core.specs.declared.entry.Entry.{Entry}
 use Rattle.ring_core.specs.declared.entry.Flight.{Flight}
-use Rattle.ring_core.specs.declared.entry.Completion.{Completion}
-use Rattle.ring_core.specs.Lists.{passes}
+use Rattle.machine.specs.declared.completion.Completion.{Completion}
+use Rattle.machine.specs.Lists.{passes}
 pub use Rattle.ring_core.specs.Ring.{binds_next, fresh_flight}
 
 -- The completion of an entry with an outcome.

@@ -6,7 +6,7 @@ use Rattle.ring_core.specs.declared.entry.Body.{Body}
 use Rattle.ring_core.specs.declared.entry.Body.TheVariants.{Call as Calls, Cancel as Cancels, Close as Closes}
 use Rattle.ring_core.specs.declared.entry.Target.{Target}
 use Rattle.ring_core.specs.declared.entry.Target.TheVariants.{Slot, Handle, Reserved}
-use Rattle.ring_core.specs.declared.request.Call.{Call}
+use Rattle.machine.specs.declared.request.Call.{Call}
 
 -- What a data word names: below the words of closes the slot of that key, and from there on a handle, up to the reserved words.
 abbrev pub target : ℕ → Target

@@ -1,7 +1,7 @@
 -- A ring in memory whose enters fail where they are told to. Cited by `FaultRing`, and by the driver over one.
 use Rattle.std.specs.Prelude.{ℕ, ◌≡◌, ◌+◌, ◌^◌, ◌-◌, ◌==◌, min, Bool, true, false, List, [], ◌∷◌, ◌++◌, length, Result, Ok, Err}
 use Rattle.std.specs.List.{list_any}
-use Rattle.ring_core.specs.declared.entry.Completion.{Completion}
+use Rattle.machine.specs.declared.completion.Completion.{Completion}
 use Rattle.ring_core.specs.declared.ring.EnterError.{EnterError}
 use Rattle.ring_core.specs.declared.ring.EnterError.TheVariants.{Fault, Busy}
 use Rattle.ring_core.specs.Ring.{RingView, entered, with_done}

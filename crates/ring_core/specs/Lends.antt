@@ -1,10 +1,10 @@
 -- What a ring in memory ends as, where a `&mut` to its handles is returned.
 use Rattle.std.specs.Prelude.{List}
 use Rattle.std.specs.Borrow.{Lends, Fml, MutBor}
-use Rattle.ring_core.specs.declared.world.HandleState.{HandleState}
+use Rattle.machine.specs.declared.world.HandleState.{HandleState}
 use Rattle.ring_core.specs.Ring.{RingView}
 use Rattle.ring_core.specs.contracts.mem_ring.MemRing.{the_row}
-use Rattle.ring_core.specs.contracts.world.World.{the_row as world_row}
+use Rattle.machine.specs.contracts.world.World.{the_row as world_row}
 
 -- A ring with these handles.
 abbrev pub with_world : RingView → List HandleState → RingView

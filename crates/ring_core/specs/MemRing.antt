@@ -1,19 +1,18 @@
 -- What executing an entry in flight does to the ring in memory.
 use Rattle.std.specs.Prelude.{ℕ, suc, ◌≡◌, ◌≤◌, Bool, true, false, List, [], ◌∷◌, ◌++◌, length, drop, slice_get, nat_le, option_map, Option}
-use Rattle.std.specs.Prelude.{Some, None, Result, Ok, Err}
-use Rattle.ring_core.specs.declared.request.Told.{Told}
-use Rattle.ring_core.specs.declared.request.Outcome.{Outcome}
-use Rattle.ring_core.specs.declared.entry.Body.{Body}
-use Rattle.ring_core.specs.declared.entry.Body.TheVariants.{Call as Calls, Cancel as Cancels, Close as Closes}
+use Rattle.std.specs.Prelude.{Some, Result, Ok, Err}
+use Rattle.machine.specs.declared.request.Told.{Told}
+use Rattle.machine.specs.declared.request.Outcome.{Outcome}
 use Rattle.ring_core.specs.declared.entry.Entry.{Entry}
 use Rattle.ring_core.specs.declared.entry.Flight.{Flight}
-use Rattle.ring_core.specs.declared.entry.Completion.{Completion}
+use Rattle.machine.specs.declared.completion.Completion.{Completion}
 use Rattle.ring_core.specs.declared.mem_ring.ExecRefusal.{ExecRefusal}
 use Rattle.ring_core.specs.declared.mem_ring.ExecRefusal.TheVariants.{NotFlying, Waiting, BadOutcome, OutOfMemory}
-pub use Rattle.ring_core.specs.Called.{is_allowed_body, body_effect}
+pub use Rattle.ring_core.specs.Bodies.{is_allowed_body, body_effect}
 pub use Rattle.ring_core.specs.Bound.{completion_of, is_bound, broken, taken_along, flying_left, HasLeader}
-use Rattle.ring_core.specs.Effect.{Effect, unmoved, call_sends}
-use Rattle.ring_core.specs.Payloads.{body_comes, StoresIf, body_may_run_out}
+use Rattle.machine.specs.Effect.{Effect, unmoved}
+use Rattle.machine.specs.Payloads.{StoresIf}
+use Rattle.ring_core.specs.Bodies.{body_comes, body_may_run_out}
 use Rattle.ring_core.specs.Ring.{RingView}
 
 -- The ring in memory with no entries.
@@ -33,12 +32,6 @@ fresh_ring entries = record {
 -- The entry that is in flight at a place.
 abbrev pub entry_at : List Flight → ℕ → Option Entry
 entry_at flying place = option_map (λ flight. flight.entry) (slice_get flying place)
-
--- How many bytes the body of an entry in flight sends with what is told; None where it sends nothing.
-abbrev pub body_sends : Body → Told → Option ℕ
-body_sends (Calls call) told = call_sends call told
-body_sends (Cancels key) told = None
-body_sends (Closes h) told = None
 
 -- The ring after the entry at a place was executed: its completion is behind all others, and behind it are those of the entries that it
 -- takes with it.

@@ -1,17 +1,12 @@
 -- Which slots are kept, found by rank. Cited by `Ranks`.
 use Rattle.std.specs.Prelude.{ℕ, zero, suc, ◌+◌, ◌*◌, ◌-◌, ◌≡◌, ◌≤◌, Bool, true, false, List, [], ◌∷◌, slice_get}
 use Rattle.ring_core.specs.declared.ranks.TheConstants.{WIDTH}
-use Rattle.ring_core.specs.Lists.{passes}
+use Rattle.machine.specs.Lists.{passes, one_if}
 
 -- Slots: each that was joined is kept, or isn't any more; and for how many there is memory.
 pub record Ranked : Type 0 where
   pub flags : List Bool
   pub room : ℕ
-
--- 1 where a test passes, else 0.
-abbrev pub one_if : Bool → ℕ
-one_if true = 1
-one_if false = 0
 
 -- How many of the first n slots are kept.
 abbrev pub kept_first : ℕ → List Bool → ℕ

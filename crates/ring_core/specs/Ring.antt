@@ -3,16 +3,16 @@ use Rattle.std.specs.Prelude.{ℕ, ◌+◌, ◌-◌, ◌≡◌, ◌≤◌, ◌<�
 use Rattle.std.specs.Prelude.{Result, Ok, Err, Option, Some, None}
 use Rattle.ring_core.specs.declared.entry.Entry.{Entry}
 use Rattle.ring_core.specs.declared.entry.Flight.{Flight}
-use Rattle.ring_core.specs.declared.entry.Completion.{Completion}
-use Rattle.ring_core.specs.declared.request.Outcome.TheVariants.{Count as Counted}
+use Rattle.machine.specs.declared.completion.Completion.{Completion}
+use Rattle.machine.specs.declared.request.Outcome.TheVariants.{Count as Counted}
 use Rattle.ring_core.specs.declared.entry.Body.{Body}
 use Rattle.ring_core.specs.declared.entry.Body.TheVariants.{Call as Calls, Cancel as Cancels, Close as Closes}
-use Rattle.ring_core.specs.declared.world.HandleState.{HandleState}
+use Rattle.machine.specs.declared.world.HandleState.{HandleState}
 use Rattle.ring_core.specs.declared.ring.Push.{Push}
 use Rattle.ring_core.specs.declared.ring.Push.TheVariants.{Done, Full}
 use Rattle.ring_core.specs.declared.ring.EnterError.{EnterError}
 use Rattle.ring_core.specs.declared.ring.EnterError.TheVariants.{Fault, Busy}
-use Rattle.ring_core.specs.Counts.{Rose}
+use Rattle.machine.specs.Counts.{Rose}
 
 -- A ring: its queue, what is in flight, the completions that are ready, its handles, for how many pushes it has reserved memory,
 -- how often it failed and was busy, and how many completions are still to come by themselves, of the entries that it took. Every ring

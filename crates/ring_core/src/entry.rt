@@ -1,9 +1,8 @@
-//! The entries of a ring, and its completions.
+//! The entries of a ring.
 ghost use Rattle.std.specs.Prelude.{◌≡◌, ◌<◌};
 ghost use Rattle.ring_core.specs.Entry.{target, call_entry, cancel_entry, close_entry, may_link};
-ghost use Rattle.ring_core.specs.MemRing.{body_sends};
 
-use crate::request::{Call, Outcome, Told};
+use machine::{Call, MOST_HANDLES};
 
 /// The first of the data words that name handles: that of the close of handle 0. Those below it name slots. (not in monoio)
 pub const FIRST_CLOSE: u64 = 1 << 63;
@@ -13,9 +12,6 @@ pub const FIRST_RESERVED: u64 = u64::MAX - 3;
 
 /// The data word of a cancel: a reserved one. (not in monoio)
 pub const CANCEL_WORD: u64 = u64::MAX;
-
-/// The number of each handle is below it. (not in monoio)
-pub const MOST_HANDLES: u64 = 1 << 62;
 
 /// What a data word names. (not in monoio)
 #[derive(Clone, Copy, Debug, PartialEq, Eq)]
@@ -52,21 +48,6 @@ pub enum Body {
     Cancel(u64),
     /// The close of this handle.
     Close(u64),
-}
-
-impl Body {
-    /// How many bytes it sends of what its request holds, with this report; None where it sends nothing of it, or failed.
-    /// (not in monoio)
-    pub fn sends(&self, told: Told) -> Option<u32>
-        ensures { result ≡ body_sends self.now told }
-    {
-        match self {
-            Body::Call(Call::Out { .. })
-            | Body::Call(Call::MessageOut { .. })
-            | Body::Call(Call::WriteAt { .. }) => told.count(),
-            Body::Call(_) | Body::Cancel(_) | Body::Close(_) => None,
-        }
-    }
 }
 
 /// A submission. The ring compares data words alone, and never serials. It is made by `Entry::call`, `Entry::cancel` and
@@ -145,15 +126,4 @@ pub struct Flight {
     pub marked: bool,
     /// It is a call that waits for the linked one directly before it.
     pub bound: bool,
-}
-
-/// A completion. (io_uring: a completion queue entry, without its flags)
-#[derive(Clone, Copy, Debug, PartialEq, Eq)]
-pub struct Completion {
-    /// The entry's data word.
-    pub word: u64,
-    /// The entry's serial.
-    pub serial: u64,
-    /// How the entry ended.
-    pub outcome: Outcome,
 }

@@ -4,9 +4,10 @@ ghost use Rattle.ring_core.specs.Entry.{may_link};
 ghost use Rattle.ring_core.specs.Ring.{PushesFor, EntersFor, IsSynced, NextFor, reserved};
 ghost use Rattle.ring_core.specs.FaultRing.{fresh_faults, faulty_ring, with_ring, with_completion, is_next, EntersFaulty};
 
-use crate::entry::{Completion, Entry};
+use crate::entry::Entry;
 use crate::mem_ring::MemRing;
 use crate::ring::{EnterError, Push, Ring};
+use machine::Completion;
 use rent_buf::{NumList, OutOfMemory};
 use std::marker::Model;
 

@@ -1,7 +1,7 @@
 //! What is in flight, in order, found by place and by data word.
 ghost use Rattle.std.specs.Prelude.{◌≡◌, ◌<◌, ◌≤◌, ◌+◌, [], ◌∷◌, ◌++◌, true, false, map, length, replicate, remove, OnOk, OnErr, slice_get};
 ghost use Rattle.std.specs.Prelude.{vec_len, vec_capacity};
-ghost use Rattle.ring_core.specs.Lists.{amended};
+ghost use Rattle.machine.specs.Lists.{amended};
 ghost use Rattle.ring_core.specs.Ring.{marked_by};
 ghost use Rattle.ring_core.specs.Ranks.{kept, kept_first};
 ghost use Rattle.std.specs.Option.{ForSome};

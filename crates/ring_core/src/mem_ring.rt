@@ -5,16 +5,18 @@ ghost use Rattle.std.specs.Borrow.{sem};
 ghost use Rattle.ring_core.specs.Ring.{flying_after_entry, flying_after, done_after_entry, done_after, binds_next};
 ghost use Rattle.ring_core.specs.Bound.{is_bound, HasLeader, broken, bound_front, behind_bound, left_behind, taken_along};
 ghost use Rattle.ring_core.specs.MemRing.{fresh_ring, entry_at, completion_of, completed, FinishesFor, ExecutesFor};
+ghost use Rattle.ring_core.specs.Bodies.{CarriesOutFor};
 ghost use Rattle.ring_core.specs.Lends.{lends_world};
 ghost use Rattle.ring_core.specs.FaultRing.{with_completion};
 
-use crate::entry::{Body, Completion, Entry, MOST_HANDLES};
+use crate::entry::{Body, Entry, Flight};
 use crate::flights::Flights;
-use crate::payloads::{Payloads, append_first, copy_first};
-use crate::request::{CANCELED, Outcome, Told};
 use crate::ring::{EnterError, Push, Ring};
 use crate::room::make_room;
-use crate::world::{RunError, World};
+use machine::{
+    CANCELED, Completion, MOST_HANDLES, Outcome, Payloads, RunError, Told, World, append_first,
+    close_outcome, copy_first,
+};
 use rent_buf::{ByteList, OutOfMemory};
 use std::alloc::Global;
 use std::collections::VecDeque;
@@ -151,7 +153,7 @@ impl MemRing {
         if flight.bound {
             return Err(ExecRefusal::Waiting);
         }
-        match self.world.execute(&flight, told, payloads) {
+        match carry_out(&mut self.world, &flight, told, payloads) {
             Ok(outcome) => Ok(self.complete(place, flight.entry, outcome)),
             Err(RunError::NotAllowed) => Err(ExecRefusal::BadOutcome),
             Err(RunError::OutOfMemory) => Err(ExecRefusal::OutOfMemory),
@@ -302,6 +304,28 @@ impl Ring for MemRing {
 
     fn next(&mut self) -> Option<Completion> {
         self.done.pop_front()
+    }
+}
+
+// Carries an entry in flight out with what is reported of it, where that is allowed to it (`is_allowed_body`): its bytes move between its
+// handles and the payload of its data word (`body_effect`), and its outcome is returned. After an error nothing has changed. A close moves
+// nothing. No cancel is in flight, since it is done as it is taken: none is allowed.
+fn carry_out<P: Payloads>(
+    world: &mut World,
+    flight: &Flight,
+    told: Told,
+    payloads: &mut P,
+) -> Result<Outcome, RunError>
+    ensures runs { CarriesOutFor P.stores P.takes_memory flight.now told (P.offered payloads.old flight.now.entry.word)
+        world.old world.new payloads.old payloads.new result }
+    ensures few { length world.old ≤ MOST_HANDLES → length world.new ≤ MOST_HANDLES }
+{
+    match flight.entry.body {
+        Body::Call(call) => {
+            world.execute(call, flight.marked, told, flight.entry.word, payloads)
+        }
+        Body::Close(_) => close_outcome(told),
+        Body::Cancel(_) => Err(RunError::NotAllowed),
     }
 }
 

@@ -1,7 +1,7 @@
 //! Slots of which some are kept, found by their rank among these.
 ghost use Rattle.std.specs.Prelude.{◌≡◌, ◌<◌, ◌≤◌, ◌+◌, ◌-◌, ◌^◌, [], ◌∷◌, ◌++◌, true, false, suc, length, replicate, get_or, slice_get};
 ghost use Rattle.std.specs.Prelude.{slice_set, Some, ℕ, max, OnOk, OnErr};
-ghost use Rattle.ring_core.specs.Lists.{amended};
+ghost use Rattle.machine.specs.Lists.{amended};
 ghost use Rattle.ring_core.specs.Ranks.{kept_first, sum_first, is_kept, less_one};
 
 use rent_buf::OutOfMemory;

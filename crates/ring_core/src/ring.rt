@@ -3,7 +3,8 @@ ghost use Rattle.std.specs.Prelude.{◌≡◌, ◌<◌, ◌≤◌, Bool, length,
 ghost use Rattle.ring_core.specs.Ring.{RingView, PushesFor, EntersFor, IsSynced, NextFor, reserved};
 ghost use Rattle.ring_core.specs.Entry.{may_link};
 
-use crate::entry::{Completion, Entry};
+use crate::entry::Entry;
+use machine::Completion;
 use rent_buf::OutOfMemory;
 use thiserror::Error;
 

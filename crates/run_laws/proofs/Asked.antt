@@ -1,18 +1,18 @@
 -- Whose cancel is recorded: of an operation with a property alone, where each cancel in the queue is one of such an operation.
 use Rattle.std.proofs.Common.{◌≡◌, ◌⊎◌, inl, inr, ℕ, zero, suc, Bool, true, false, List, [], ◌∷◌, ◌++◌, length, map, Option, Some, None}
 use Rattle.std.proofs.Common.{slice_get, refl, sym, ◌∙◌, ap, subst, if◌then◌else◌, ◌==◌}
-use Rattle.ring_core.specs.Lists.{amended}
-use Rattle.ring_core.specs.declared.request.Told.{Told}
-use Rattle.ring_core.specs.Ledger.{Ledger, Operation, Gone, Queued, Req, Cancel, Item, Op}
-use Rattle.ring_core.specs.Queue.{with_op, at_place, with_take, with_cancel, take_one, leader_behind, take_behind, take_all, make_room}
-use Rattle.ring_core.specs.Queue.{append, push, push_each}
-use Rattle.ring_core.specs.Queue.{became_unheld, with_gone, leave}
-use Rattle.ring_core.specs.Turn.{with_reap, reap_if, reap_op, reap_one, reap_each, reap_all, with_break, released}
-use Rattle.ring_core.proofs.Taken.{queue-take_each}
-use Rattle.ring_core.proofs.Amended.{changed-cases, joined-cases, there-before}
-use Rattle.ring_core.proofs.Taking.{Listed}
-use Rattle.ring_core.proofs.Listed.{joined}
-use Rattle.ring_core.proofs.Releasing.{with_waits, released-ops, released-beside}
+use Rattle.machine.specs.Lists.{amended}
+use Rattle.machine.specs.declared.request.Told.{Told}
+use Rattle.machine.specs.Ledger.{Ledger, Operation, Gone, Queued, Req, Cancel, Item, Op}
+use Rattle.machine.specs.Queue.{with_op, at_place, with_take, with_cancel, take_one, leader_behind, take_behind, take_all, make_room}
+use Rattle.machine.specs.Queue.{append, push, push_each}
+use Rattle.machine.specs.Queue.{became_unheld, with_gone, leave}
+use Rattle.machine.specs.Turn.{with_reap, reap_if, reap_op, reap_one, reap_each, reap_all, with_break, released}
+use Rattle.machine.proofs.Taken.{queue-take_each}
+use Rattle.machine.proofs.Amended.{changed-cases, joined-cases, there-before}
+use Rattle.machine.proofs.Taking.{Listed}
+use Rattle.machine.proofs.Listed.{joined}
+use Rattle.machine.proofs.Releasing.{with_waits, released-ops, released-beside}
 
 -- Each cancel among these entries is one of an operation with this property.
 abbrev pub CancelsOf : (ℕ → Type 0) → List Queued → Type 0

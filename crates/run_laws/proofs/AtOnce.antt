@@ -4,23 +4,23 @@ use Rattle.std.proofs.lemmas.Option.{slice_get_cases}
 use Rattle.rent_buf.specs.Buffer.{Buffer}
 use Rattle.rent_buf.specs.Parts.{Parts}
 use Rattle.rent_buf.specs.Held.{HeldBuf}
-use Rattle.ring_core.specs.declared.request.Request.{Request}
-use Rattle.ring_core.specs.declared.ledger.Event.{Event}
-use Rattle.ring_core.specs.declared.ledger.Event.TheVariants.{Give, Feed, FeedMessage, End, Look, Close, Submit, Poll, Drop, Cancel, Turn}
-use Rattle.ring_core.specs.declared.ledger.Event.TheVariants.{Exec}
-use Rattle.ring_core.specs.declared.ledger.Event.TheVariants.{NewCanceller, NewHandle, CancelAll}
-use Rattle.ring_core.specs.declared.ledger.Refusal.{Refusal}
-use Rattle.ring_core.specs.declared.ledger.Reply.TheVariants.{CanceledAtOnce}
-use Rattle.ring_core.specs.Lists.{passes}
-use Rattle.ring_core.specs.Request.{held_of}
-use Rattle.ring_core.specs.Ledger.{Ledger, empty, is_marked}
-use Rattle.ring_core.specs.Ledger.{is_under_marked, group_under}
-use Rattle.ring_core.specs.Refusal.{cause}
-use Rattle.ring_core.specs.Step.{step, row, answered, submit_if}
-use Rattle.ring_core.specs.Run.{ledger_before}
+use Rattle.machine.specs.declared.request.Request.{Request}
+use Rattle.machine.specs.declared.ledger.Event.{Event}
+use Rattle.machine.specs.declared.ledger.Event.TheVariants.{Give, Feed, FeedMessage, End, Look, Close, Submit, Poll, Drop, Cancel, Turn}
+use Rattle.machine.specs.declared.ledger.Event.TheVariants.{Exec}
+use Rattle.machine.specs.declared.ledger.Event.TheVariants.{NewCanceller, NewHandle, CancelAll}
+use Rattle.machine.specs.declared.ledger.Refusal.{Refusal}
+use Rattle.machine.specs.declared.ledger.Reply.TheVariants.{CanceledAtOnce}
+use Rattle.machine.specs.Lists.{passes}
+use Rattle.machine.specs.Request.{held_of}
+use Rattle.machine.specs.Ledger.{Ledger, empty, is_marked}
+use Rattle.machine.specs.Ledger.{is_under_marked, group_under}
+use Rattle.machine.specs.Refusal.{cause}
+use Rattle.machine.specs.Step.{step, row, answered, submit_if}
+use Rattle.machine.specs.Run.{ledger_before}
 use Rattle.run_laws.specs.Groups.{IsCanceledHandle, IsUnderCanceled, CanceledAtOnceExactly}
-use Rattle.ring_core.proofs.Staying.{groups_of}
-use Rattle.ring_core.proofs.Stepping.{step-row}
+use Rattle.machine.proofs.Staying.{groups_of}
+use Rattle.machine.proofs.Stepping.{step-row}
 use Rattle.run_laws.proofs.Replies.{reply-at, reply-event}
 use Rattle.run_laws.proofs.GroupReplies.{answered-group}
 use Rattle.run_laws.proofs.Origins.{answers, Origin, OriginsAt}

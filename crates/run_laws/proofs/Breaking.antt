@@ -3,20 +3,20 @@ use Rattle.std.proofs.Common.{◌≡◌, ◌≢◌, inl, inr, ℕ, zero, suc, �
 use Rattle.std.proofs.Common.{Some, option_map, slice_get, refl, sym, ◌∙◌, ap, arith}
 use Rattle.std.proofs.lemmas.List.{append_assoc}
 use Rattle.std.specs.Prelude.{if◌then◌else◌}
-use Rattle.ring_core.specs.declared.request.Told.TheVariants.{Fail}
-use Rattle.ring_core.specs.declared.ledger.Event.{Event}
-use Rattle.ring_core.specs.Lists.{passes}
-use Rattle.ring_core.specs.Ledger.{Ledger, Operation, Item, Op}
-use Rattle.ring_core.specs.Turn.{waits_on, waiting_on, with_result, effect_of, exec_op, complete_at, break_each, break_one}
-use Rattle.ring_core.specs.Run.{ledger_before, IsExecuted}
+use Rattle.machine.specs.declared.request.Told.TheVariants.{Fail}
+use Rattle.machine.specs.declared.ledger.Event.{Event}
+use Rattle.machine.specs.Lists.{passes}
+use Rattle.machine.specs.Ledger.{Ledger, Operation, Item, Op}
+use Rattle.machine.specs.Turn.{waits_on, waiting_on, with_result, effect_of, exec_op, complete_at, break_each, break_one}
+use Rattle.machine.specs.Run.{ledger_before, IsExecuted}
 use Rattle.run_laws.specs.Waits.{IsWaiting, IsChained, Runs, BreaksChain, IsDoneBehind, CompletesInOrder}
-use Rattle.ring_core.proofs.Amended.{get-map}
-use Rattle.ring_core.proofs.Occurring.{same-cases, listed}
-use Rattle.ring_core.proofs.Taking.{flight_mark}
-use Rattle.ring_core.proofs.Listed.{flying-there}
-use Rattle.ring_core.proofs.Releasing.{counted, listed-without-other}
-use Rattle.ring_core.proofs.Behind.{awaited, waits-is, same-at}
-use Rattle.ring_core.proofs.Released.{break_each-done}
+use Rattle.machine.proofs.Amended.{get-map}
+use Rattle.machine.proofs.Occurring.{same-cases, listed}
+use Rattle.machine.proofs.Taking.{flight_mark}
+use Rattle.machine.proofs.Listed.{flying-there}
+use Rattle.machine.proofs.Releasing.{counted, listed-without-other}
+use Rattle.machine.proofs.Behind.{awaited, waits-is, same-at}
+use Rattle.machine.proofs.Released.{break_each-done}
 use Rattle.run_laws.proofs.Executing.{lists-at, exec-after, executed-left, executed-other, executed-lists}
 use Rattle.run_laws.proofs.Waiting.{breaks-behind, waits-apart, runs-left}
 use Rattle.run_laws.proofs.Starting.{awaits-waiting}

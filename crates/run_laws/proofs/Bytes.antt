@@ -7,33 +7,33 @@ use Rattle.std.proofs.lemmas.Bool.{eq-eqb, leb-true}
 use Rattle.std.proofs.lemmas.List.{append-nil, append_assoc, length-take-le}
 use Rattle.std.proofs.lemmas.Option.{slice_get_past}
 use Rattle.rent_buf.specs.Held.{HeldBuf}
-use Rattle.ring_core.specs.declared.request.Call.{Call}
-use Rattle.ring_core.specs.declared.request.Call.TheVariants.{In, MessageIn, ToPipe, FromPipe}
-use Rattle.ring_core.specs.declared.request.Told.{Told}
-use Rattle.ring_core.specs.declared.request.Told.TheVariants.{Count, Fail}
-use Rattle.ring_core.specs.declared.request.Outcome.{Outcome}
-use Rattle.ring_core.specs.declared.world.HandleState.{HandleState}
-use Rattle.ring_core.specs.declared.ledger.Event.{Event}
-use Rattle.ring_core.specs.declared.ledger.Event.TheVariants.{Exec}
-use Rattle.ring_core.specs.Lists.{amended, passes}
-use Rattle.ring_core.specs.World.{input_at, messages_at}
-use Rattle.ring_core.specs.Request.{call_of, sent_of}
-use Rattle.ring_core.specs.Outcome.{may_take, may_receive, is_allowed}
-use Rattle.ring_core.specs.Effect.{Effect, effect, message_effect, without_message}
-use Rattle.ring_core.specs.Ledger.{Ledger, Operation, InFlight, Item, Op, empty}
-use Rattle.ring_core.specs.Turn.{effect_of}
-use Rattle.ring_core.specs.Refusal.{allowed, waits}
-use Rattle.ring_core.specs.Step.{step}
-use Rattle.ring_core.specs.Run.{after, ledger_before, IsOwn, IsGiven, own_answer}
+use Rattle.machine.specs.declared.request.Call.{Call}
+use Rattle.machine.specs.declared.request.Call.TheVariants.{In, MessageIn, ToPipe, FromPipe}
+use Rattle.machine.specs.declared.request.Told.{Told}
+use Rattle.machine.specs.declared.request.Told.TheVariants.{Count, Fail}
+use Rattle.machine.specs.declared.request.Outcome.{Outcome}
+use Rattle.machine.specs.declared.world.HandleState.{HandleState}
+use Rattle.machine.specs.declared.ledger.Event.{Event}
+use Rattle.machine.specs.declared.ledger.Event.TheVariants.{Exec}
+use Rattle.machine.specs.Lists.{amended, passes}
+use Rattle.machine.specs.World.{input_at, messages_at}
+use Rattle.machine.specs.Request.{call_of, sent_of}
+use Rattle.machine.specs.Outcome.{may_take, may_receive, is_allowed}
+use Rattle.machine.specs.Effect.{Effect, effect, message_effect, without_message}
+use Rattle.machine.specs.Ledger.{Ledger, Operation, InFlight, Item, Op, empty}
+use Rattle.machine.specs.Turn.{effect_of}
+use Rattle.machine.specs.Refusal.{allowed, waits}
+use Rattle.machine.specs.Step.{step}
+use Rattle.machine.specs.Run.{after, ledger_before, IsOwn, IsGiven, own_answer}
 use Rattle.run_laws.proofs.Executing.{executed-flew, breaks-by-failure, counted-itself, own-itself}
 use Rattle.run_laws.specs.Transfers.{Transfer, Taken, Sent, MessageTaken, moved_as, op_moves, item_moves, moves_if, event_moves, transfers}
 use Rattle.run_laws.specs.Transfers.{at_handle, message_taken, spliced}
 use Rattle.run_laws.specs.Bytes.{InputInOrder, MessagesInOrder, FilesHoldLast, OutputInOrder, SentInOrder, ReadsTakeOwn, TakesMessage}
 use Rattle.run_laws.specs.Bytes.{ReceivesTakeOwn, PassesOn, SplicesPassOn, MovesOwn, own_moves, own_got, transfers_before}
 use Rattle.run_laws.specs.Files.{pieces}
-use Rattle.ring_core.proofs.Numbers.{and-left, and-right, not-passes}
-use Rattle.ring_core.proofs.Moving.{read-within}
-use Rattle.ring_core.proofs.Lawful.{Lawful, lawful-step, lawful-ledger}
+use Rattle.machine.proofs.Numbers.{and-left, and-right, not-passes}
+use Rattle.machine.proofs.Moving.{read-within}
+use Rattle.machine.proofs.Lawful.{Lawful, lawful-step, lawful-ledger}
 use Rattle.run_laws.proofs.Moments.{History}
 use Rattle.run_laws.proofs.Trace.{Trace}
 use Rattle.run_laws.proofs.Polls.{traced, given-once}

@@ -1,20 +1,20 @@
 -- What a CancelAll names: the members of its canceller's present group.
 use Rattle.std.proofs.Common.{◌≡◌, inl, inr, ℕ, zero, suc, ◌≤◌, Bool, true, false, List, [], ◌∷◌, Option, None, Some, option_map, slice_get}
 use Rattle.std.proofs.Common.{refl, sym, ◌∙◌, ap, subst, arith}
-use Rattle.ring_core.specs.declared.ledger.Event.{Event}
-use Rattle.ring_core.specs.declared.ledger.Event.TheVariants.{CancelAll}
-use Rattle.ring_core.specs.Lists.{passes}
-use Rattle.ring_core.specs.Ledger.{Ledger, Operation, empty, is_kept, is_marked, members}
-use Rattle.ring_core.specs.Refusal.{cause}
-use Rattle.ring_core.specs.Step.{group_of}
-use Rattle.ring_core.specs.Run.{ledger_before}
+use Rattle.machine.specs.declared.ledger.Event.{Event}
+use Rattle.machine.specs.declared.ledger.Event.TheVariants.{CancelAll}
+use Rattle.machine.specs.Lists.{passes}
+use Rattle.machine.specs.Ledger.{Ledger, Operation, empty, is_kept, is_marked, members}
+use Rattle.machine.specs.Refusal.{cause}
+use Rattle.machine.specs.Step.{group_of}
+use Rattle.machine.specs.Run.{ledger_before}
 use Rattle.run_laws.specs.Groups.{CreatesHandle, IsCanceledBetween, IsGivenUnder, IsMemberBefore, Rise, NamesMembers, CancelsMembers}
-use Rattle.ring_core.proofs.Amended.{get-map}
-use Rattle.ring_core.proofs.Staying.{groups_of}
-use Rattle.ring_core.proofs.Leaving.{Ascends}
-use Rattle.ring_core.proofs.Stepping.{step-row, cancel-canceller}
-use Rattle.ring_core.proofs.Grouping.{group-there}
-use Rattle.ring_core.proofs.Members.{MemberAt, members-are, are-members, members-ascend}
+use Rattle.machine.proofs.Amended.{get-map}
+use Rattle.machine.proofs.Staying.{groups_of}
+use Rattle.machine.proofs.Leaving.{Ascends}
+use Rattle.machine.proofs.Stepping.{step-row, cancel-canceller}
+use Rattle.machine.proofs.Grouping.{group-there}
+use Rattle.machine.proofs.Members.{MemberAt, members-are, are-members, members-ascend}
 use Rattle.run_laws.proofs.Replies.{reply-at}
 use Rattle.run_laws.proofs.Moments.{Owned, History}
 use Rattle.run_laws.proofs.Polls.{traced, given-once}

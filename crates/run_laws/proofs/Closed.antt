@@ -2,19 +2,19 @@
 use Rattle.std.proofs.Common.{◌≡◌, ◌⊎◌, inl, inr, ℕ, zero, suc, ◌≤◌, ◌<◌, Bool, true, false, List, length, take}
 use Rattle.std.proofs.Common.{Some, slice_get, refl, sym, ◌∙◌, ap, subst, arith}
 use Rattle.std.proofs.lemmas.Option.{slice_get_cases, slice_get_within}
-use Rattle.ring_core.specs.declared.ledger.Event.{Event}
-use Rattle.ring_core.specs.declared.ledger.Reply.{Reply}
-use Rattle.ring_core.specs.declared.ledger.Reply.TheVariants.{Turned}
-use Rattle.ring_core.specs.Ledger.{Ledger, empty}
-use Rattle.ring_core.specs.Queue.{is_unheld}
-use Rattle.ring_core.specs.Step.{step}
-use Rattle.ring_core.specs.Run.{replies, ledger_before}
-use Rattle.ring_core.specs.Closes.{close_count}
+use Rattle.machine.specs.declared.ledger.Event.{Event}
+use Rattle.machine.specs.declared.ledger.Reply.{Reply}
+use Rattle.machine.specs.declared.ledger.Reply.TheVariants.{Turned}
+use Rattle.machine.specs.Ledger.{Ledger, empty}
+use Rattle.machine.specs.Queue.{is_unheld}
+use Rattle.machine.specs.Step.{step}
+use Rattle.machine.specs.Run.{replies, ledger_before}
+use Rattle.machine.specs.Closes.{close_count}
 use Rattle.run_laws.specs.Closes.{NamesClosed, IsClosedBefore, IsReleasedBefore, ClosedOnce, ClosedWhenReleased}
 use Rattle.run_laws.specs.Closes.{UnheldCloses, ClosedOnly}
-use Rattle.ring_core.proofs.Numbers.{same-or-not, below-or-not, below-or-above}
-use Rattle.ring_core.proofs.Holders.{unheld-is}
-use Rattle.ring_core.proofs.Lawful.{Lawful, lawful-ledger}
+use Rattle.machine.proofs.Numbers.{same-or-not, below-or-not, below-or-above}
+use Rattle.machine.proofs.Holders.{unheld-is}
+use Rattle.machine.proofs.Lawful.{Lawful, lawful-ledger}
 use Rattle.run_laws.proofs.Times.{times, times-some, times-there, times-once}
 use Rattle.run_laws.proofs.Replies.{reply-at, reply-event, after-next}
 use Rattle.run_laws.proofs.Closing.{closed_by, Ends, ends-step}

@@ -3,50 +3,50 @@ use Rattle.std.proofs.Common.{◌≡◌, inl, inr, ℕ, ◌+◌, ◌≤◌, ◌<
 use Rattle.std.proofs.Common.{None, Some, slice_get, refl, sym, ◌∙◌, ap, subst, arith, true≢false, length-append}
 use Rattle.rent_buf.specs.Buffer.{Buffer}
 use Rattle.rent_buf.specs.Parts.{Parts}
-use Rattle.ring_core.specs.declared.request.Request.{Request}
-use Rattle.ring_core.specs.declared.request.Told.{Told}
-use Rattle.ring_core.specs.declared.world.HandleState.{HandleState}
-use Rattle.ring_core.specs.declared.ledger.Event.{Event}
-use Rattle.ring_core.specs.declared.ledger.Event.TheVariants.{Give, Feed, FeedMessage, End, Look, Close, Submit, Poll, Drop, Cancel, Turn}
-use Rattle.ring_core.specs.declared.ledger.Event.TheVariants.{Exec}
-use Rattle.ring_core.specs.declared.ledger.Event.TheVariants.{NewCanceller, NewHandle, CancelAll}
-use Rattle.ring_core.specs.declared.ledger.Refusal.{Refusal}
-use Rattle.ring_core.specs.declared.ledger.Reply.{Reply}
-use Rattle.ring_core.specs.declared.ledger.Reply.TheVariants.{Turned}
-use Rattle.ring_core.specs.Lists.{passes, has_number}
-use Rattle.ring_core.specs.World.{fresh}
-use Rattle.ring_core.specs.Request.{named, call_of, sent_of}
-use Rattle.ring_core.specs.Effect.{Effect, made_by}
-use Rattle.ring_core.specs.Ledger.{Ledger, Operation, Place, InQueue, InFlight, InDone, Reaped, Gone, Queued, Req, Item, Op}
-use Rattle.ring_core.specs.Ledger.{new_operation, is_kept, is_live, user_holds, is_under_marked, group_under, members}
-use Rattle.ring_core.specs.Queue.{with_op, take_all, make_room, append, push, push_each, leave, is_unheld}
-use Rattle.ring_core.specs.Turn.{closes_in, turn_step, exec_op, exec_step, complete_at, effect_of, made_owners, with_effect, released}
-use Rattle.ring_core.specs.Step.{new_owner, give_step, step, row, with_new_op, submit_step, with_task, handed_over, poll_at, poll_step}
-use Rattle.ring_core.specs.Step.{with_drop}
-use Rattle.ring_core.specs.Step.{drop_at, drop_step, submit_if, new_canceller_step, group_of, new_handle_step, with_mark, renew_group}
-use Rattle.ring_core.specs.Step.{cancel_all_step}
-use Rattle.ring_core.specs.Refusal.{cause}
-use Rattle.ring_core.specs.Closes.{AreKnown, close_count, ClosesOnce, made_at, MadeAlone}
-use Rattle.ring_core.proofs.Numbers.{below-or-not}
-use Rattle.ring_core.proofs.Amended.{get-amended-same}
-use Rattle.ring_core.proofs.Appended.{get-append-within, get-append-end}
-use Rattle.ring_core.proofs.Taken.{queue-take_each}
-use Rattle.ring_core.proofs.Occurring.{closes_queued-append}
-use Rattle.ring_core.proofs.Staying.{Stays, stays-make_room}
-use Rattle.ring_core.proofs.Holders.{AreLive, live-none, live-push_cancel, holders-own, holders-take_all, held-by_user, unheld-at}
-use Rattle.ring_core.proofs.Holders.{unheld-same, held-by_op}
-use Rattle.ring_core.proofs.Closing.{count-take_all, count-complete_at, known-lists}
-use Rattle.ring_core.proofs.Once.{once-fewer, once-take_all}
-use Rattle.ring_core.proofs.Turning.{apart-none, live-gone, Grows, grows-effect, unheld-with_effect}
-use Rattle.ring_core.proofs.Taking.{in_queue, Listed}
-use Rattle.ring_core.proofs.Listed.{submit-joined, listed-changed, flying-there}
-use Rattle.ring_core.proofs.Stepping.{step-refused, step-row, OwnedAt, found, executed-there, closed-held, submitted-held}
-use Rattle.ring_core.proofs.Releasing.{released-beside, released-holders, released-count}
-use Rattle.ring_core.proofs.Lawful.{Lawful, listed-live, listed-unasked, handed-there, lawful-executed}
-use Rattle.ring_core.proofs.Alone.{made-there, made-holding, listed-handed}
-use Rattle.ring_core.proofs.Makes.{closing-handed, unheld-before}
-use Rattle.ring_core.proofs.Unheld.{Closing, closing-same, closing-then, closing-op, closing-take_all, closing-make_room, closing-new_op}
-use Rattle.ring_core.proofs.Unheld.{closing-push, closing-leave, closing-close, closing-reap_each}
+use Rattle.machine.specs.declared.request.Request.{Request}
+use Rattle.machine.specs.declared.request.Told.{Told}
+use Rattle.machine.specs.declared.world.HandleState.{HandleState}
+use Rattle.machine.specs.declared.ledger.Event.{Event}
+use Rattle.machine.specs.declared.ledger.Event.TheVariants.{Give, Feed, FeedMessage, End, Look, Close, Submit, Poll, Drop, Cancel, Turn}
+use Rattle.machine.specs.declared.ledger.Event.TheVariants.{Exec}
+use Rattle.machine.specs.declared.ledger.Event.TheVariants.{NewCanceller, NewHandle, CancelAll}
+use Rattle.machine.specs.declared.ledger.Refusal.{Refusal}
+use Rattle.machine.specs.declared.ledger.Reply.{Reply}
+use Rattle.machine.specs.declared.ledger.Reply.TheVariants.{Turned}
+use Rattle.machine.specs.Lists.{passes, has_number}
+use Rattle.machine.specs.World.{fresh}
+use Rattle.machine.specs.Request.{named, call_of, sent_of}
+use Rattle.machine.specs.Effect.{Effect, made_by}
+use Rattle.machine.specs.Ledger.{Ledger, Operation, Place, InQueue, InFlight, InDone, Reaped, Gone, Queued, Req, Item, Op}
+use Rattle.machine.specs.Ledger.{new_operation, is_kept, is_live, user_holds, is_under_marked, group_under, members}
+use Rattle.machine.specs.Queue.{with_op, take_all, make_room, append, push, push_each, leave, is_unheld}
+use Rattle.machine.specs.Turn.{closes_in, turn_step, exec_op, exec_step, complete_at, effect_of, made_owners, with_effect, released}
+use Rattle.machine.specs.Step.{new_owner, give_step, step, row, with_new_op, submit_step, with_task, handed_over, poll_at, poll_step}
+use Rattle.machine.specs.Step.{with_drop}
+use Rattle.machine.specs.Step.{drop_at, drop_step, submit_if, new_canceller_step, group_of, new_handle_step, with_mark, renew_group}
+use Rattle.machine.specs.Step.{cancel_all_step}
+use Rattle.machine.specs.Refusal.{cause}
+use Rattle.machine.specs.Closes.{AreKnown, close_count, ClosesOnce, made_at, MadeAlone}
+use Rattle.machine.proofs.Numbers.{below-or-not}
+use Rattle.machine.proofs.Amended.{get-amended-same}
+use Rattle.machine.proofs.Appended.{get-append-within, get-append-end}
+use Rattle.machine.proofs.Taken.{queue-take_each}
+use Rattle.machine.proofs.Occurring.{closes_queued-append}
+use Rattle.machine.proofs.Staying.{Stays, stays-make_room}
+use Rattle.machine.proofs.Holders.{AreLive, live-none, live-push_cancel, holders-own, holders-take_all, held-by_user, unheld-at}
+use Rattle.machine.proofs.Holders.{unheld-same, held-by_op}
+use Rattle.machine.proofs.Closing.{count-take_all, count-complete_at, known-lists}
+use Rattle.machine.proofs.Once.{once-fewer, once-take_all}
+use Rattle.machine.proofs.Turning.{apart-none, live-gone, Grows, grows-effect, unheld-with_effect}
+use Rattle.machine.proofs.Taking.{in_queue, Listed}
+use Rattle.machine.proofs.Listed.{submit-joined, listed-changed, flying-there}
+use Rattle.machine.proofs.Stepping.{step-refused, step-row, OwnedAt, found, executed-there, closed-held, submitted-held}
+use Rattle.machine.proofs.Releasing.{released-beside, released-holders, released-count}
+use Rattle.machine.proofs.Lawful.{Lawful, listed-live, listed-unasked, handed-there, lawful-executed}
+use Rattle.machine.proofs.Alone.{made-there, made-holding, listed-handed}
+use Rattle.machine.proofs.Makes.{closing-handed, unheld-before}
+use Rattle.machine.proofs.Unheld.{Closing, closing-same, closing-then, closing-op, closing-take_all, closing-make_room, closing-new_op}
+use Rattle.machine.proofs.Unheld.{closing-push, closing-leave, closing-close, closing-reap_each}
 use Rattle.run_laws.proofs.Times.{times, times-closes}
 use Rattle.run_laws.proofs.Looks.{looked}
 

@@ -4,21 +4,21 @@ use Rattle.std.proofs.Common.{Some, refl, sym, ◌∙◌, ap, arith, length-appe
 use Rattle.std.specs.Option.{is_some}
 use Rattle.rent_buf.specs.Buffer.{Buffer}
 use Rattle.rent_buf.specs.Parts.{Parts}
-use Rattle.ring_core.specs.declared.request.Request.{Request}
-use Rattle.ring_core.specs.declared.ledger.Event.{Event}
-use Rattle.ring_core.specs.declared.ledger.Event.TheVariants.{Give, Feed, FeedMessage, End, Look, Close, Submit, Poll, Drop, Cancel, Turn}
-use Rattle.ring_core.specs.declared.ledger.Event.TheVariants.{Exec}
-use Rattle.ring_core.specs.declared.ledger.Event.TheVariants.{NewCanceller, NewHandle, CancelAll}
-use Rattle.ring_core.specs.declared.ledger.Refusal.{Refusal}
-use Rattle.ring_core.specs.declared.ledger.Reply.{Reply}
-use Rattle.ring_core.specs.declared.ledger.Reply.TheVariants.{Canceller, CancelHandle}
-use Rattle.ring_core.specs.Ledger.{Ledger, empty, is_under_marked, group_under}
-use Rattle.ring_core.specs.Refusal.{cause}
-use Rattle.ring_core.specs.Step.{step, row, answered, submit_if, group_of}
-use Rattle.ring_core.specs.Run.{replies, ledger_before}
+use Rattle.machine.specs.declared.request.Request.{Request}
+use Rattle.machine.specs.declared.ledger.Event.{Event}
+use Rattle.machine.specs.declared.ledger.Event.TheVariants.{Give, Feed, FeedMessage, End, Look, Close, Submit, Poll, Drop, Cancel, Turn}
+use Rattle.machine.specs.declared.ledger.Event.TheVariants.{Exec}
+use Rattle.machine.specs.declared.ledger.Event.TheVariants.{NewCanceller, NewHandle, CancelAll}
+use Rattle.machine.specs.declared.ledger.Refusal.{Refusal}
+use Rattle.machine.specs.declared.ledger.Reply.{Reply}
+use Rattle.machine.specs.declared.ledger.Reply.TheVariants.{Canceller, CancelHandle}
+use Rattle.machine.specs.Ledger.{Ledger, empty, is_under_marked, group_under}
+use Rattle.machine.specs.Refusal.{cause}
+use Rattle.machine.specs.Step.{step, row, answered, submit_if, group_of}
+use Rattle.machine.specs.Run.{replies, ledger_before}
 use Rattle.run_laws.specs.Groups.{creates_canceller, creates_handle, CancellersInOrder, HandlesInOrder}
-use Rattle.ring_core.proofs.Amended.{length-amended}
-use Rattle.ring_core.proofs.Grouping.{may_group, groups-row, groups-submit, groups-cancel_all}
+use Rattle.machine.proofs.Amended.{length-amended}
+use Rattle.machine.proofs.Grouping.{may_group, groups-row, groups-submit, groups-cancel_all}
 use Rattle.run_laws.proofs.Numbers.{counted-after}
 use Rattle.run_laws.proofs.Replies.{reply-at, reply-event}
 use Rattle.run_laws.proofs.GroupReplies.{is_of_group, plain-row}

@@ -4,23 +4,23 @@ use Rattle.std.proofs.Common.{Some, slice_get, refl, sym, ◌∙◌, ap, subst, 
 use Rattle.std.specs.Prelude.{nat_le}
 use Rattle.std.proofs.lemmas.Bool.Decides.{leb_tells}
 use Rattle.std.proofs.lemmas.Option.{slice_get_cases, slice_get_within}
-use Rattle.ring_core.specs.declared.ledger.Event.{Event}
-use Rattle.ring_core.specs.declared.ledger.Event.TheVariants.{Give, Feed, FeedMessage, End, Look, Close, Submit, Poll, Drop, Cancel, Turn}
-use Rattle.ring_core.specs.declared.ledger.Event.TheVariants.{Exec}
-use Rattle.ring_core.specs.declared.ledger.Event.TheVariants.{NewCanceller, NewHandle, CancelAll}
-use Rattle.ring_core.specs.declared.ledger.Refusal.{Refusal}
-use Rattle.ring_core.specs.declared.ledger.Refusal.TheVariants.{NoOp, NoCanceller, NoHandle, Full, NotFlying, Waiting}
-use Rattle.ring_core.specs.declared.ledger.Refusal.TheVariants.{BadOutcome, BadHandleEvent}
-use Rattle.ring_core.specs.declared.ledger.Reply.{Reply}
-use Rattle.ring_core.specs.declared.ledger.Reply.TheVariants.{Canceller, CancelHandle, Refused}
-use Rattle.ring_core.specs.Ledger.{Ledger, empty}
-use Rattle.ring_core.specs.Refusal.{cause, refused_if, has_no_op, has_no_canceller, has_no_handle, is_full, is_not_flying, has_bad_outcome}
-use Rattle.ring_core.specs.Refusal.{is_waiting, has_bad_handle_event}
-use Rattle.ring_core.specs.Step.{step}
-use Rattle.ring_core.specs.Run.{replies, ledger_before}
+use Rattle.machine.specs.declared.ledger.Event.{Event}
+use Rattle.machine.specs.declared.ledger.Event.TheVariants.{Give, Feed, FeedMessage, End, Look, Close, Submit, Poll, Drop, Cancel, Turn}
+use Rattle.machine.specs.declared.ledger.Event.TheVariants.{Exec}
+use Rattle.machine.specs.declared.ledger.Event.TheVariants.{NewCanceller, NewHandle, CancelAll}
+use Rattle.machine.specs.declared.ledger.Refusal.{Refusal}
+use Rattle.machine.specs.declared.ledger.Refusal.TheVariants.{NoOp, NoCanceller, NoHandle, Full, NotFlying, Waiting}
+use Rattle.machine.specs.declared.ledger.Refusal.TheVariants.{BadOutcome, BadHandleEvent}
+use Rattle.machine.specs.declared.ledger.Reply.{Reply}
+use Rattle.machine.specs.declared.ledger.Reply.TheVariants.{Canceller, CancelHandle, Refused}
+use Rattle.machine.specs.Ledger.{Ledger, empty}
+use Rattle.machine.specs.Refusal.{cause, refused_if, has_no_op, has_no_canceller, has_no_handle, is_full, is_not_flying, has_bad_outcome}
+use Rattle.machine.specs.Refusal.{is_waiting, has_bad_handle_event}
+use Rattle.machine.specs.Step.{step}
+use Rattle.machine.specs.Run.{replies, ledger_before}
 use Rattle.run_laws.specs.Groups.{IsCancellerBefore, IsHandleBefore}
 use Rattle.run_laws.specs.Groups.{NamesNoCanceller, NoCancellerExactly}
-use Rattle.ring_core.proofs.Numbers.{same-or-not}
+use Rattle.machine.proofs.Numbers.{same-or-not}
 use Rattle.run_laws.proofs.Replies.{reply-at, after-next, step-refused, step-caused}
 use Rattle.run_laws.proofs.Counting.{canceller_in, handle_in, Counts, canceller-is, handle-is, CountsBoth, counts-step}
 

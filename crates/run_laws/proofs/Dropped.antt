@@ -1,18 +1,18 @@
 -- What a Cancel and a Drop make of the trace of a ledger.
 use Rattle.std.proofs.Common.{◌≡◌, inl, inr, ℕ, suc, true, false, List, Some, option_map, slice_get, refl, sym, ◌∙◌, ap, subst, arith}
-use Rattle.ring_core.specs.declared.request.Outcome.{Outcome}
-use Rattle.ring_core.specs.declared.ledger.Event.{Event}
-use Rattle.ring_core.specs.declared.ledger.Event.TheVariants.{Drop}
-use Rattle.ring_core.specs.declared.ledger.Reply.TheVariants.{Dropped}
-use Rattle.ring_core.specs.Ledger.{Ledger, Operation, Place, InQueue, InFlight, InDone, Reaped, Gone, Queued, empty, is_kept}
-use Rattle.ring_core.specs.Queue.{with_op, at_place, make_room, push, became_unheld, with_gone, leave}
-use Rattle.ring_core.specs.Step.{with_drop, drop_at}
-use Rattle.ring_core.specs.Run.{replies}
+use Rattle.machine.specs.declared.request.Outcome.{Outcome}
+use Rattle.machine.specs.declared.ledger.Event.{Event}
+use Rattle.machine.specs.declared.ledger.Event.TheVariants.{Drop}
+use Rattle.machine.specs.declared.ledger.Reply.TheVariants.{Dropped}
+use Rattle.machine.specs.Ledger.{Ledger, Operation, Place, InQueue, InFlight, InDone, Reaped, Gone, Queued, empty, is_kept}
+use Rattle.machine.specs.Queue.{with_op, at_place, make_room, push, became_unheld, with_gone, leave}
+use Rattle.machine.specs.Step.{with_drop, drop_at}
+use Rattle.machine.specs.Run.{replies}
 use Rattle.run_laws.specs.Moments.{IsDropped}
-use Rattle.ring_core.proofs.Amended.{get-amended, changed-cases}
-use Rattle.ring_core.proofs.Taking.{in_queue, in_flight, in_done, Listed}
-use Rattle.ring_core.proofs.Listed.{listed-changed}
-use Rattle.ring_core.proofs.Ending.{listed-gone}
+use Rattle.machine.proofs.Amended.{get-amended, changed-cases}
+use Rattle.machine.proofs.Taking.{in_queue, in_flight, in_done, Listed}
+use Rattle.machine.proofs.Listed.{listed-changed}
+use Rattle.machine.proofs.Ending.{listed-gone}
 use Rattle.run_laws.proofs.Asked.{asked-op, asked-make_room, asked-appended}
 use Rattle.run_laws.proofs.Moments.{Placed, Owned, History, reaped-before, no-exec}
 use Rattle.run_laws.proofs.History.{given-next, placed-next, history-next}

@@ -6,33 +6,33 @@ use Rattle.std.specs.Prelude.{nat_le}
 use Rattle.rent_buf.specs.Buffer.{Buffer}
 use Rattle.rent_buf.specs.Parts.{Parts}
 use Rattle.rent_buf.specs.Held.{HeldBuf}
-use Rattle.ring_core.specs.declared.request.Request.{Request}
-use Rattle.ring_core.specs.declared.request.Told.{Told}
-use Rattle.ring_core.specs.declared.request.Told.TheVariants.{Fail}
-use Rattle.ring_core.specs.declared.ledger.Event.{Event}
-use Rattle.ring_core.specs.declared.ledger.Event.TheVariants.{Give, Feed, FeedMessage, End, Look, Close, Submit, Poll, Drop, Cancel, Turn}
-use Rattle.ring_core.specs.declared.ledger.Event.TheVariants.{Exec}
-use Rattle.ring_core.specs.declared.ledger.Event.TheVariants.{NewCanceller, NewHandle, CancelAll}
-use Rattle.ring_core.specs.declared.ledger.Refusal.{Refusal}
-use Rattle.ring_core.specs.declared.ledger.Refusal.TheVariants.{NotFlying, Waiting, BadOutcome}
-use Rattle.ring_core.specs.declared.ledger.Reply.TheVariants.{Turned}
-use Rattle.ring_core.specs.Lists.{passes}
-use Rattle.ring_core.specs.declared.request.TheConstants.{CANCELED}
-use Rattle.ring_core.specs.Ledger.{Ledger, Operation, Place, InQueue, InFlight, InDone, Reaped, Gone, Item, Op, empty}
-use Rattle.ring_core.specs.Ledger.{is_under_marked, group_under}
-use Rattle.ring_core.specs.Queue.{take_all}
-use Rattle.ring_core.specs.Turn.{ops_in, closes_in, tasks_woken, exec_step}
-use Rattle.ring_core.specs.Refusal.{cause, refused_if, allowed, waits}
-use Rattle.ring_core.specs.Step.{step, row, answered, submit_if, poll_at, poll_step, drop_step}
-use Rattle.ring_core.specs.Run.{replies, ledger_before, IsReaped}
+use Rattle.machine.specs.declared.request.Request.{Request}
+use Rattle.machine.specs.declared.request.Told.{Told}
+use Rattle.machine.specs.declared.request.Told.TheVariants.{Fail}
+use Rattle.machine.specs.declared.ledger.Event.{Event}
+use Rattle.machine.specs.declared.ledger.Event.TheVariants.{Give, Feed, FeedMessage, End, Look, Close, Submit, Poll, Drop, Cancel, Turn}
+use Rattle.machine.specs.declared.ledger.Event.TheVariants.{Exec}
+use Rattle.machine.specs.declared.ledger.Event.TheVariants.{NewCanceller, NewHandle, CancelAll}
+use Rattle.machine.specs.declared.ledger.Refusal.{Refusal}
+use Rattle.machine.specs.declared.ledger.Refusal.TheVariants.{NotFlying, Waiting, BadOutcome}
+use Rattle.machine.specs.declared.ledger.Reply.TheVariants.{Turned}
+use Rattle.machine.specs.Lists.{passes}
+use Rattle.machine.specs.declared.request.TheConstants.{CANCELED}
+use Rattle.machine.specs.Ledger.{Ledger, Operation, Place, InQueue, InFlight, InDone, Reaped, Gone, Item, Op, empty}
+use Rattle.machine.specs.Ledger.{is_under_marked, group_under}
+use Rattle.machine.specs.Queue.{take_all}
+use Rattle.machine.specs.Turn.{ops_in, closes_in, tasks_woken, exec_step}
+use Rattle.machine.specs.Refusal.{cause, refused_if, allowed, waits}
+use Rattle.machine.specs.Step.{step, row, answered, submit_if, poll_at, poll_step, drop_step}
+use Rattle.machine.specs.Run.{replies, ledger_before, IsReaped}
 use Rattle.run_laws.specs.Moments.{NamesReaped}
 use Rattle.run_laws.specs.Headline.{ReapNames, KeptUntilReaped, CanceledWhereAsked}
-use Rattle.ring_core.proofs.Numbers.{below-or-not}
-use Rattle.ring_core.proofs.Taken.{done-take_each}
-use Rattle.ring_core.proofs.Occurring.{same-cases, listed}
-use Rattle.ring_core.proofs.Taking.{in_done, done_mark}
-use Rattle.ring_core.proofs.Listed.{flying-there}
-use Rattle.ring_core.proofs.Stepping.{step-row}
+use Rattle.machine.proofs.Numbers.{below-or-not}
+use Rattle.machine.proofs.Taken.{done-take_each}
+use Rattle.machine.proofs.Occurring.{same-cases, listed}
+use Rattle.machine.proofs.Taking.{in_done, done_mark}
+use Rattle.machine.proofs.Listed.{flying-there}
+use Rattle.machine.proofs.Stepping.{step-row}
 use Rattle.run_laws.proofs.Replies.{reply-at, reply-event}
 use Rattle.run_laws.proofs.Moments.{Placed, History}
 use Rattle.run_laws.proofs.Trace.{Trace}

@@ -7,28 +7,28 @@ use Rattle.std.proofs.lemmas.Bool.Decides.{eqb_tells}
 use Rattle.rent_buf.specs.Buffer.{Buffer}
 use Rattle.rent_buf.specs.Parts.{Parts}
 use Rattle.rent_buf.specs.Held.{HeldBuf}
-use Rattle.ring_core.specs.declared.request.Request.{Request}
-use Rattle.ring_core.specs.declared.request.TheConstants.{CANCELED}
-use Rattle.ring_core.specs.declared.request.Told.{Told}
-use Rattle.ring_core.specs.declared.request.Told.TheVariants.{Count, Fail}
-use Rattle.ring_core.specs.declared.request.Outcome.{Outcome}
-use Rattle.ring_core.specs.declared.ledger.Event.{Event}
-use Rattle.ring_core.specs.declared.ledger.Event.TheVariants.{Exec}
-use Rattle.ring_core.specs.Ranks.{one_if}
-use Rattle.ring_core.specs.Request.{held, held_of}
-use Rattle.ring_core.specs.Refusal.{cause}
-use Rattle.ring_core.specs.Effect.{Effect}
-use Rattle.ring_core.specs.Ledger.{Ledger, Operation, InFlight, InDone, Item, Op, empty}
-use Rattle.ring_core.specs.Turn.{is_op, released, effect_of, with_result, exec_op, exec_step, complete_at, unless_waits, waiting_on}
-use Rattle.ring_core.specs.Run.{ledger_before, IsExecuted, IsOwn, own_answer}
+use Rattle.machine.specs.declared.request.Request.{Request}
+use Rattle.machine.specs.declared.request.TheConstants.{CANCELED}
+use Rattle.machine.specs.declared.request.Told.{Told}
+use Rattle.machine.specs.declared.request.Told.TheVariants.{Count, Fail}
+use Rattle.machine.specs.declared.request.Outcome.{Outcome}
+use Rattle.machine.specs.declared.ledger.Event.{Event}
+use Rattle.machine.specs.declared.ledger.Event.TheVariants.{Exec}
+use Rattle.machine.specs.Lists.{one_if}
+use Rattle.machine.specs.Request.{held, held_of}
+use Rattle.machine.specs.Refusal.{cause}
+use Rattle.machine.specs.Effect.{Effect}
+use Rattle.machine.specs.Ledger.{Ledger, Operation, InFlight, InDone, Item, Op, empty}
+use Rattle.machine.specs.Turn.{is_op, released, effect_of, with_result, exec_op, exec_step, complete_at, unless_waits, waiting_on}
+use Rattle.machine.specs.Run.{ledger_before, IsExecuted, IsOwn, own_answer}
 use Rattle.run_laws.specs.Headline.{BreaksByFailure}
-use Rattle.ring_core.proofs.Numbers.{same-or-not, equal-self, equal-other}
-use Rattle.ring_core.proofs.Amended.{get-amended, get-amended-other, get-map}
-use Rattle.ring_core.proofs.Occurring.{same, listed}
-use Rattle.ring_core.proofs.Taking.{in_flight, flight_mark, Listed}
-use Rattle.ring_core.proofs.Listed.{flying-there, flight-there}
-use Rattle.ring_core.proofs.Releasing.{flight-mark-most, with_waits, Stayed, Broke, released-ops, break_each-ops, waiting-flown}
-use Rattle.ring_core.proofs.Lawful.{lawful-ledger, lawful-executed}
+use Rattle.machine.proofs.Numbers.{same-or-not, equal-self, equal-other}
+use Rattle.machine.proofs.Amended.{get-amended, get-amended-other, get-map}
+use Rattle.machine.proofs.Occurring.{same, listed}
+use Rattle.machine.proofs.Taking.{in_flight, flight_mark, Listed}
+use Rattle.machine.proofs.Listed.{flying-there, flight-there}
+use Rattle.machine.proofs.Releasing.{flight-mark-most, with_waits, Stayed, Broke, released-ops, break_each-ops, waiting-flown}
+use Rattle.machine.proofs.Lawful.{lawful-ledger, lawful-executed}
 use Rattle.run_laws.proofs.Replies.{step-row, after-next}
 
 -- An operation that is found among items counts there.

@@ -6,9 +6,9 @@ use Rattle.std.proofs.lemmas.Bool.Decides.{leb_tells}
 use Rattle.std.proofs.lemmas.Option.{slice_get_past, slice_get-get_or}
 use Rattle.std.proofs.lemmas.List.{append_assoc, length-take, length-drop, length-replicate, get_or_past, get_or_append_left}
 use Rattle.std.proofs.lemmas.List.{get_or-append_right, get_or-take, get_or-drop, get_or-replicate}
-use Rattle.ring_core.specs.Effect.{overwritten}
+use Rattle.machine.specs.Effect.{overwritten}
 use Rattle.run_laws.specs.Files.{Piece, end_of, file_end, byte_of, last_byte, HoldsLast}
-use Rattle.ring_core.proofs.Numbers.{below-or-not}
+use Rattle.machine.proofs.Numbers.{below-or-not}
 
 -- A piece puts no byte before its place.
 byte-before : (piece : Piece) (p : ℕ) → p < piece.begin → byte_of piece p ≡ None

@@ -1,16 +1,16 @@
 -- Which events are answered with what speaks of cancellers and of groups.
 use Rattle.std.proofs.Common.{◌≡◌, ℕ, Bool, true, false, Option, None, Some, slice_get, refl, sym, ◌∙◌, ap}
-use Rattle.ring_core.specs.declared.request.Told.{Told}
-use Rattle.ring_core.specs.declared.ledger.Event.{Event}
-use Rattle.ring_core.specs.declared.ledger.Event.TheVariants.{Give, Feed, FeedMessage, End, Look, Close, Submit, Poll, Drop, Cancel, Turn}
-use Rattle.ring_core.specs.declared.ledger.Event.TheVariants.{Exec}
-use Rattle.ring_core.specs.declared.ledger.Event.TheVariants.{NewCanceller, NewHandle, CancelAll}
-use Rattle.ring_core.specs.declared.ledger.Reply.{Reply}
-use Rattle.ring_core.specs.declared.ledger.Reply.TheVariants.{CanceledAtOnce, Canceller, CancelHandle, Cancels}
-use Rattle.ring_core.specs.Ledger.{Ledger, Operation, Place, InQueue, InFlight, InDone, Reaped, Gone, Item, Op}
-use Rattle.ring_core.specs.Turn.{exec_step}
-use Rattle.ring_core.specs.Step.{row, poll_at, poll_step, drop_step}
-use Rattle.ring_core.proofs.Grouping.{may_group}
+use Rattle.machine.specs.declared.request.Told.{Told}
+use Rattle.machine.specs.declared.ledger.Event.{Event}
+use Rattle.machine.specs.declared.ledger.Event.TheVariants.{Give, Feed, FeedMessage, End, Look, Close, Submit, Poll, Drop, Cancel, Turn}
+use Rattle.machine.specs.declared.ledger.Event.TheVariants.{Exec}
+use Rattle.machine.specs.declared.ledger.Event.TheVariants.{NewCanceller, NewHandle, CancelAll}
+use Rattle.machine.specs.declared.ledger.Reply.{Reply}
+use Rattle.machine.specs.declared.ledger.Reply.TheVariants.{CanceledAtOnce, Canceller, CancelHandle, Cancels}
+use Rattle.machine.specs.Ledger.{Ledger, Operation, Place, InQueue, InFlight, InDone, Reaped, Gone, Item, Op}
+use Rattle.machine.specs.Turn.{exec_step}
+use Rattle.machine.specs.Step.{row, poll_at, poll_step, drop_step}
+use Rattle.machine.proofs.Grouping.{may_group}
 use Rattle.run_laws.proofs.Looks.{looked}
 
 -- A reply speaks of a canceller, a cancel handle or a group.

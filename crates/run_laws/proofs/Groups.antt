@@ -5,23 +5,23 @@ use Rattle.std.proofs.lemmas.List.{length-map}
 use Rattle.std.proofs.lemmas.Option.{slice_get_cases, slice_get_within}
 use Rattle.rent_buf.specs.Buffer.{Buffer}
 use Rattle.rent_buf.specs.Parts.{Parts}
-use Rattle.ring_core.specs.declared.request.Request.{Request}
-use Rattle.ring_core.specs.declared.ledger.Event.{Event}
-use Rattle.ring_core.specs.declared.ledger.Event.TheVariants.{Give, Feed, FeedMessage, End, Look, Close, Submit, Poll, Drop, Cancel, Turn}
-use Rattle.ring_core.specs.declared.ledger.Event.TheVariants.{Exec}
-use Rattle.ring_core.specs.declared.ledger.Event.TheVariants.{NewCanceller, NewHandle, CancelAll}
-use Rattle.ring_core.specs.declared.ledger.Refusal.{Refusal}
-use Rattle.ring_core.specs.declared.ledger.Reply.TheVariants.{Submitted, CanceledAtOnce, Canceller, CancelHandle, Refused}
-use Rattle.ring_core.specs.Request.{held_of}
-use Rattle.ring_core.specs.Ledger.{Ledger, empty, is_under_marked, group_under, members}
-use Rattle.ring_core.specs.Refusal.{cause}
-use Rattle.ring_core.specs.Step.{step, row, answered, submit_step, submit_if, group_of, cancel_all_step}
-use Rattle.ring_core.specs.Run.{ledger_before}
+use Rattle.machine.specs.declared.request.Request.{Request}
+use Rattle.machine.specs.declared.ledger.Event.{Event}
+use Rattle.machine.specs.declared.ledger.Event.TheVariants.{Give, Feed, FeedMessage, End, Look, Close, Submit, Poll, Drop, Cancel, Turn}
+use Rattle.machine.specs.declared.ledger.Event.TheVariants.{Exec}
+use Rattle.machine.specs.declared.ledger.Event.TheVariants.{NewCanceller, NewHandle, CancelAll}
+use Rattle.machine.specs.declared.ledger.Refusal.{Refusal}
+use Rattle.machine.specs.declared.ledger.Reply.TheVariants.{Submitted, CanceledAtOnce, Canceller, CancelHandle, Refused}
+use Rattle.machine.specs.Request.{held_of}
+use Rattle.machine.specs.Ledger.{Ledger, empty, is_under_marked, group_under, members}
+use Rattle.machine.specs.Refusal.{cause}
+use Rattle.machine.specs.Step.{step, row, answered, submit_step, submit_if, group_of, cancel_all_step}
+use Rattle.machine.specs.Run.{ledger_before}
 use Rattle.run_laws.specs.Groups.{CreatesHandle, IsCanceledBetween}
-use Rattle.ring_core.proofs.Staying.{groups_of}
-use Rattle.ring_core.proofs.Stepping.{step-refused, step-row, submitted-under, handle-canceller, cancel-canceller}
-use Rattle.ring_core.proofs.Grouping.{op_groups, may_group, groups-row, renewed, groups-submit, groups-cancel_all, group-there}
-use Rattle.ring_core.proofs.Grouped.{Grouped, grouped-ledger}
+use Rattle.machine.proofs.Staying.{groups_of}
+use Rattle.machine.proofs.Stepping.{step-refused, step-row, submitted-under, handle-canceller, cancel-canceller}
+use Rattle.machine.proofs.Grouping.{op_groups, may_group, groups-row, renewed, groups-submit, groups-cancel_all, group-there}
+use Rattle.machine.proofs.Grouped.{Grouped, grouped-ledger}
 use Rattle.run_laws.proofs.Replies.{reply-at, after-next}
 use Rattle.run_laws.proofs.Origins.{answers, IsGroupUnder, OriginsAt, origins-still, origins-given, origins-canceller, origins-handle}
 use Rattle.run_laws.proofs.Origins.{origins-renewed, origins-as, Origin}

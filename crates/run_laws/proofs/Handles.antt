@@ -4,24 +4,24 @@ use Rattle.std.proofs.Common.{slice_get, refl, sym, ◌∙◌, ap, subst, arith,
 use Rattle.std.proofs.lemmas.Option.{slice_get_within}
 use Rattle.rent_buf.specs.Buffer.{Buffer}
 use Rattle.rent_buf.specs.Parts.{Parts}
-use Rattle.ring_core.specs.declared.request.Request.{Request}
-use Rattle.ring_core.specs.declared.request.Told.{Told}
-use Rattle.ring_core.specs.declared.world.HandleKind.{HandleKind}
-use Rattle.ring_core.specs.declared.ledger.Event.{Event}
-use Rattle.ring_core.specs.declared.ledger.Event.TheVariants.{Give, Feed, FeedMessage, End, Look, Close, Submit, Poll, Drop, Cancel, Turn}
-use Rattle.ring_core.specs.declared.ledger.Event.TheVariants.{Exec}
-use Rattle.ring_core.specs.declared.ledger.Event.TheVariants.{NewCanceller, NewHandle, CancelAll}
-use Rattle.ring_core.specs.declared.ledger.Refusal.{Refusal}
-use Rattle.ring_core.specs.declared.ledger.Reply.{Reply}
-use Rattle.ring_core.specs.declared.ledger.Reply.TheVariants.{Handle}
-use Rattle.ring_core.specs.Ledger.{Ledger, Operation, Place, InQueue, InFlight, InDone, Reaped, Gone, Item, Op, empty}
-use Rattle.ring_core.specs.Ledger.{is_under_marked, group_under}
-use Rattle.ring_core.specs.Turn.{exec_step}
-use Rattle.ring_core.specs.Refusal.{cause}
-use Rattle.ring_core.specs.Step.{step, row, answered, new_owner, submit_if, poll_at, poll_step, drop_step}
-use Rattle.ring_core.specs.Run.{replies, ledger_before}
+use Rattle.machine.specs.declared.request.Request.{Request}
+use Rattle.machine.specs.declared.request.Told.{Told}
+use Rattle.machine.specs.declared.world.HandleKind.{HandleKind}
+use Rattle.machine.specs.declared.ledger.Event.{Event}
+use Rattle.machine.specs.declared.ledger.Event.TheVariants.{Give, Feed, FeedMessage, End, Look, Close, Submit, Poll, Drop, Cancel, Turn}
+use Rattle.machine.specs.declared.ledger.Event.TheVariants.{Exec}
+use Rattle.machine.specs.declared.ledger.Event.TheVariants.{NewCanceller, NewHandle, CancelAll}
+use Rattle.machine.specs.declared.ledger.Refusal.{Refusal}
+use Rattle.machine.specs.declared.ledger.Reply.{Reply}
+use Rattle.machine.specs.declared.ledger.Reply.TheVariants.{Handle}
+use Rattle.machine.specs.Ledger.{Ledger, Operation, Place, InQueue, InFlight, InDone, Reaped, Gone, Item, Op, empty}
+use Rattle.machine.specs.Ledger.{is_under_marked, group_under}
+use Rattle.machine.specs.Turn.{exec_step}
+use Rattle.machine.specs.Refusal.{cause}
+use Rattle.machine.specs.Step.{step, row, answered, new_owner, submit_if, poll_at, poll_step, drop_step}
+use Rattle.machine.specs.Run.{replies, ledger_before}
 use Rattle.run_laws.specs.Closes.{IsMadeBy, IsCreated, CreatedOnce}
-use Rattle.ring_core.proofs.Lawful.{lawful-ledger}
+use Rattle.machine.proofs.Lawful.{lawful-ledger}
 use Rattle.run_laws.proofs.Replies.{step-row, reply-at, reply-event, after-next}
 use Rattle.run_laws.proofs.Looks.{looked}
 use Rattle.run_laws.proofs.Polls.{once-by}

@@ -4,19 +4,19 @@ use Rattle.std.proofs.Common.{subst, arith}
 use Rattle.rent_buf.specs.Buffer.{Buffer}
 use Rattle.rent_buf.specs.Parts.{Parts}
 use Rattle.rent_buf.specs.Held.{HeldBuf}
-use Rattle.ring_core.specs.declared.request.Request.{Request}
-use Rattle.ring_core.specs.declared.request.Outcome.{Outcome}
-use Rattle.ring_core.specs.declared.ledger.Event.{Event}
-use Rattle.ring_core.specs.declared.ledger.Event.TheVariants.{Turn}
-use Rattle.ring_core.specs.declared.ledger.Reply.{Reply}
-use Rattle.ring_core.specs.Ledger.{Operation, Place, InQueue, InFlight, InDone, Reaped, Gone, empty, is_kept}
-use Rattle.ring_core.specs.Run.{replies, IsGiven}
+use Rattle.machine.specs.declared.request.Request.{Request}
+use Rattle.machine.specs.declared.request.Outcome.{Outcome}
+use Rattle.machine.specs.declared.ledger.Event.{Event}
+use Rattle.machine.specs.declared.ledger.Event.TheVariants.{Turn}
+use Rattle.machine.specs.declared.ledger.Reply.{Reply}
+use Rattle.machine.specs.Ledger.{Operation, Place, InQueue, InFlight, InDone, Reaped, Gone, empty, is_kept}
+use Rattle.machine.specs.Run.{replies, IsGiven}
 use Rattle.run_laws.specs.Moments.{IsReapedBefore, IsHandedBefore, IsDroppedBefore}
-use Rattle.ring_core.proofs.Making.{kept-taken}
-use Rattle.ring_core.proofs.Numbers.{same-or-not, below-or-not}
-use Rattle.ring_core.proofs.Taking.{taken_place, with_taking, Took}
-use Rattle.ring_core.proofs.Releasing.{with_waits}
-use Rattle.ring_core.proofs.Reaping.{place_after, ended_place, with_end}
+use Rattle.machine.proofs.Making.{kept-taken}
+use Rattle.machine.proofs.Numbers.{same-or-not, below-or-not}
+use Rattle.machine.proofs.Taking.{taken_place, with_taking, Took}
+use Rattle.machine.proofs.Releasing.{with_waits}
+use Rattle.machine.proofs.Reaping.{place_after, ended_place, with_end}
 use Rattle.run_laws.proofs.Moments.{NotBefore, Executes, Hands, Drops, Given, Stands, WasReaped, reaped-before, Placed, Owned, Unknown}
 use Rattle.run_laws.proofs.Moments.{History, IsCalm}
 

@@ -3,18 +3,18 @@
 use Rattle.std.proofs.Common.{[], ◌≡◌, ◌≢◌, ◌⊎◌, inl, inr, ℕ, zero, suc, ◌≤◌, Bool, true, false, List, ◌∷◌}
 use Rattle.std.proofs.Common.{Option, Some, None, option_map, slice_get, refl, sym, ◌∙◌, ap, subst, arith}
 use Rattle.std.specs.Prelude.{if◌then◌else◌}
-use Rattle.ring_core.specs.Lists.{passes}
-use Rattle.ring_core.specs.Ledger.{Ledger, Operation, Place, InQueue, InFlight, InDone, Reaped, Gone, Queued, Req}
-use Rattle.ring_core.specs.Queue.{with_op, with_take, with_cancel, canceled_at, take_one, leader_behind, take_behind, take_all}
+use Rattle.machine.specs.Lists.{passes}
+use Rattle.machine.specs.Ledger.{Ledger, Operation, Place, InQueue, InFlight, InDone, Reaped, Gone, Queued, Req}
+use Rattle.machine.specs.Queue.{with_op, with_take, with_cancel, canceled_at, take_one, leader_behind, take_behind, take_all}
 use Rattle.run_laws.specs.Waits.{IsNext}
-use Rattle.ring_core.proofs.Amended.{get-amended, get-amended-other, changed-cases}
-use Rattle.ring_core.proofs.Occurring.{queued}
-use Rattle.ring_core.proofs.Taking.{in_queue, in_flight, queue_mark, flight_mark, Listed, canceled-place, one-taken, one-canceled}
-use Rattle.ring_core.proofs.Listed.{flight-there}
-use Rattle.ring_core.proofs.Reaping.{AreCloses, closed-take_all}
-use Rattle.ring_core.proofs.Lawful.{queued-there}
-use Rattle.ring_core.proofs.Behind.{awaited, no-number, same-at}
-use Rattle.ring_core.proofs.Following.{canceled-waits}
+use Rattle.machine.proofs.Amended.{get-amended, get-amended-other, changed-cases}
+use Rattle.machine.proofs.Occurring.{queued}
+use Rattle.machine.proofs.Taking.{in_queue, in_flight, queue_mark, flight_mark, Listed, canceled-place, one-taken, one-canceled}
+use Rattle.machine.proofs.Listed.{flight-there}
+use Rattle.machine.proofs.Reaping.{AreCloses, closed-take_all}
+use Rattle.machine.proofs.Lawful.{queued-there}
+use Rattle.machine.proofs.Behind.{awaited, no-number, same-at}
+use Rattle.machine.proofs.Following.{canceled-waits}
 
 -- An operation in flight waits for another.
 pub record Waits (L : Ledger) (n leader : ℕ) : Type 0 where

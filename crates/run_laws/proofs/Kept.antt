@@ -4,31 +4,31 @@ use Rattle.std.proofs.Common.{Option, Some, None, option_map, slice_get, refl, s
 use Rattle.std.specs.Prelude.{if◌then◌else◌, ◌==◌}
 use Rattle.rent_buf.specs.Buffer.{Buffer}
 use Rattle.rent_buf.specs.Parts.{Parts}
-use Rattle.ring_core.specs.declared.request.Request.{Request}
-use Rattle.ring_core.specs.declared.ledger.Event.{Event}
-use Rattle.ring_core.specs.declared.ledger.Event.TheVariants.{Give, Feed, FeedMessage, End, Look, Close, Submit, Poll, Drop, Cancel, Turn}
-use Rattle.ring_core.specs.declared.ledger.Event.TheVariants.{Exec}
-use Rattle.ring_core.specs.declared.ledger.Event.TheVariants.{NewCanceller, NewHandle, CancelAll}
-use Rattle.ring_core.specs.Lists.{passes}
-use Rattle.ring_core.specs.Ledger.{Ledger, Operation, Place, InQueue, InFlight, InDone, Reaped, Gone, Queued, Req}
-use Rattle.ring_core.specs.Ledger.{new_operation, is_under_marked, group_under, members}
-use Rattle.ring_core.specs.Queue.{with_op, at_place, take_all}
-use Rattle.ring_core.specs.Queue.{make_room, push, push_each, is_unheld, became_unheld, with_gone, leave}
-use Rattle.ring_core.specs.Turn.{turn_step}
-use Rattle.ring_core.specs.Step.{row, with_user, close_if, submit_if, with_task, handed_over, poll_at, poll_step}
-use Rattle.ring_core.specs.Step.{with_drop, drop_at, drop_step, group_of, with_mark}
-use Rattle.ring_core.specs.Refusal.{cause}
-use Rattle.ring_core.proofs.Amended.{get-amended-same, joined-cases}
-use Rattle.ring_core.proofs.Grouped.{get-append-keeps}
-use Rattle.ring_core.proofs.Taking.{in_queue, in_flight, in_done, flight_mark, Listed}
-use Rattle.ring_core.proofs.Taking.{listed-take_all}
-use Rattle.ring_core.proofs.Listed.{flight-there, joined, submit-joined, listed-push_cancel, listed-push_close, listed-changed}
-use Rattle.ring_core.proofs.Ending.{Unmarked, listed-gone}
-use Rattle.ring_core.proofs.Reaping.{closed-take_all, with_end, ended_place, reap_all-ops}
-use Rattle.ring_core.proofs.Stepping.{OwnedAt, found}
-use Rattle.ring_core.proofs.Lawful.{handed-there}
-use Rattle.ring_core.proofs.Alone.{listed-handed}
-use Rattle.ring_core.proofs.Behind.{awaited, no-number}
+use Rattle.machine.specs.declared.request.Request.{Request}
+use Rattle.machine.specs.declared.ledger.Event.{Event}
+use Rattle.machine.specs.declared.ledger.Event.TheVariants.{Give, Feed, FeedMessage, End, Look, Close, Submit, Poll, Drop, Cancel, Turn}
+use Rattle.machine.specs.declared.ledger.Event.TheVariants.{Exec}
+use Rattle.machine.specs.declared.ledger.Event.TheVariants.{NewCanceller, NewHandle, CancelAll}
+use Rattle.machine.specs.Lists.{passes}
+use Rattle.machine.specs.Ledger.{Ledger, Operation, Place, InQueue, InFlight, InDone, Reaped, Gone, Queued, Req}
+use Rattle.machine.specs.Ledger.{new_operation, is_under_marked, group_under, members}
+use Rattle.machine.specs.Queue.{with_op, at_place, take_all}
+use Rattle.machine.specs.Queue.{make_room, push, push_each, is_unheld, became_unheld, with_gone, leave}
+use Rattle.machine.specs.Turn.{turn_step}
+use Rattle.machine.specs.Step.{row, with_user, close_if, submit_if, with_task, handed_over, poll_at, poll_step}
+use Rattle.machine.specs.Step.{with_drop, drop_at, drop_step, group_of, with_mark}
+use Rattle.machine.specs.Refusal.{cause}
+use Rattle.machine.proofs.Amended.{get-amended-same, joined-cases}
+use Rattle.machine.proofs.Grouped.{get-append-keeps}
+use Rattle.machine.proofs.Taking.{in_queue, in_flight, in_done, flight_mark, Listed}
+use Rattle.machine.proofs.Taking.{listed-take_all}
+use Rattle.machine.proofs.Listed.{flight-there, joined, submit-joined, listed-push_cancel, listed-push_close, listed-changed}
+use Rattle.machine.proofs.Ending.{Unmarked, listed-gone}
+use Rattle.machine.proofs.Reaping.{closed-take_all, with_end, ended_place, reap_all-ops}
+use Rattle.machine.proofs.Stepping.{OwnedAt, found}
+use Rattle.machine.proofs.Lawful.{handed-there}
+use Rattle.machine.proofs.Alone.{listed-handed}
+use Rattle.machine.proofs.Behind.{awaited, no-number}
 use Rattle.run_laws.proofs.Moments.{is_exec}
 use Rattle.run_laws.proofs.Keeps.{Keeps, Backs, backs-same, keeps-same, keeps-then, Leaves, keeps-op, backs-op, closes-unrequested}
 use Rattle.run_laws.proofs.Keeps.{backs-take_all, keeps-take_all}

@@ -1,8 +1,8 @@
 -- The laws of whole runs, each by its name, for whoever cites them.
 use Rattle.std.proofs.Common.{ℕ, List}
-use Rattle.ring_core.specs.declared.ledger.Event.{Event}
-use Rattle.ring_core.specs.Ledger.{empty}
-use Rattle.ring_core.specs.Run.{replies}
+use Rattle.machine.specs.declared.ledger.Event.{Event}
+use Rattle.machine.specs.Ledger.{empty}
+use Rattle.machine.specs.Run.{replies}
 use Rattle.run_laws.specs.Headline.{OneReplyEach}
 use Rattle.run_laws.proofs.Replies.{length-replies}
 pub use Rattle.run_laws.proofs.Replies.{refused-exactly}

@@ -3,34 +3,34 @@ use Rattle.std.proofs.Common.{◌≡◌, ◌⊎◌, inl, inr, ℕ, zero, suc, �
 use Rattle.std.proofs.Common.{None, Some, slice_get, refl, sym, ◌∙◌, ap, subst, arith, true≢false}
 use Rattle.std.proofs.lemmas.Option.{slice_get_cases, slice_get_within}
 use Rattle.rent_buf.specs.Held.{HeldBuf}
-use Rattle.ring_core.specs.declared.request.Told.{Told}
-use Rattle.ring_core.specs.declared.request.Outcome.{Outcome}
-use Rattle.ring_core.specs.declared.request.Outcome.TheVariants.{Made}
-use Rattle.ring_core.specs.declared.ledger.Event.{Event}
-use Rattle.ring_core.specs.declared.ledger.Event.TheVariants.{Poll, Exec}
-use Rattle.ring_core.specs.declared.ledger.Reply.TheVariants.{Handed}
-use Rattle.ring_core.specs.Lists.{passes}
-use Rattle.ring_core.specs.Request.{call_of, sent_of, held}
-use Rattle.ring_core.specs.Effect.{made_by}
-use Rattle.ring_core.specs.Ledger.{Ledger, Operation, Place, InQueue, InFlight, InDone, Reaped, Gone, Item, Op, empty, is_kept, is_live}
-use Rattle.ring_core.specs.Ledger.{user_holds}
-use Rattle.ring_core.specs.Queue.{is_unheld}
-use Rattle.ring_core.specs.Turn.{effect_of}
-use Rattle.ring_core.specs.Step.{step, handed_over, poll_at, poll_step}
-use Rattle.ring_core.specs.Refusal.{cause}
-use Rattle.ring_core.specs.Closes.{made_at}
-use Rattle.ring_core.specs.Run.{replies, ledger_before, IsExecuted, IsOwn}
+use Rattle.machine.specs.declared.request.Told.{Told}
+use Rattle.machine.specs.declared.request.Outcome.{Outcome}
+use Rattle.machine.specs.declared.request.Outcome.TheVariants.{Made}
+use Rattle.machine.specs.declared.ledger.Event.{Event}
+use Rattle.machine.specs.declared.ledger.Event.TheVariants.{Poll, Exec}
+use Rattle.machine.specs.declared.ledger.Reply.TheVariants.{Handed}
+use Rattle.machine.specs.Lists.{passes}
+use Rattle.machine.specs.Request.{call_of, sent_of, held}
+use Rattle.machine.specs.Effect.{made_by}
+use Rattle.machine.specs.Ledger.{Ledger, Operation, Place, InQueue, InFlight, InDone, Reaped, Gone, Item, Op, empty, is_kept, is_live}
+use Rattle.machine.specs.Ledger.{user_holds}
+use Rattle.machine.specs.Queue.{is_unheld}
+use Rattle.machine.specs.Turn.{effect_of}
+use Rattle.machine.specs.Step.{step, handed_over, poll_at, poll_step}
+use Rattle.machine.specs.Refusal.{cause}
+use Rattle.machine.specs.Closes.{made_at}
+use Rattle.machine.specs.Run.{replies, ledger_before, IsExecuted, IsOwn}
 use Rattle.run_laws.proofs.Executing.{made-itself, exec-itself, own-itself}
 use Rattle.run_laws.specs.Moments.{IsReapedBefore}
 use Rattle.run_laws.specs.Closes.{IsMadeBy, IsAbandonedBefore, IsOverBefore, MadeOnce, MadeOnly}
-use Rattle.ring_core.proofs.Numbers.{same-or-not, below-or-not, below-or-above}
-use Rattle.ring_core.proofs.Staying.{stays-leave}
-use Rattle.ring_core.proofs.Holders.{held-by_op}
-use Rattle.ring_core.proofs.Users.{user-with_user}
-use Rattle.ring_core.proofs.Turning.{grows-effect}
-use Rattle.ring_core.proofs.Stepping.{step-row, OwnedAt, found}
-use Rattle.ring_core.proofs.Lawful.{lawful-ledger}
-use Rattle.ring_core.proofs.Alone.{alone-ledger, made-there, made-holding}
+use Rattle.machine.proofs.Numbers.{same-or-not, below-or-not, below-or-above}
+use Rattle.machine.proofs.Staying.{stays-leave}
+use Rattle.machine.proofs.Holders.{held-by_op}
+use Rattle.machine.proofs.Users.{user-with_user}
+use Rattle.machine.proofs.Turning.{grows-effect}
+use Rattle.machine.proofs.Stepping.{step-row, OwnedAt, found}
+use Rattle.machine.proofs.Lawful.{lawful-ledger}
+use Rattle.machine.proofs.Alone.{alone-ledger, made-there, made-holding}
 use Rattle.run_laws.proofs.Replies.{reply-at, after-next, executed-reply}
 use Rattle.run_laws.proofs.Moments.{NotBefore, Hands, Placed, Owned, History}
 use Rattle.run_laws.proofs.History.{not-before-next}

@@ -7,42 +7,42 @@ use Rattle.std.proofs.lemmas.Option.{slice_get_cases}
 use Rattle.std.proofs.lemmas.List.{append-nil, append_assoc}
 use Rattle.rent_buf.specs.Buffer.{Buffer}
 use Rattle.rent_buf.specs.Parts.{Parts}
-use Rattle.ring_core.specs.declared.request.Request.{Request}
-use Rattle.ring_core.specs.declared.request.Call.{Call}
-use Rattle.ring_core.specs.declared.request.Call.TheVariants.{In, Out, MessageIn, MessageOut, ReadAt, WriteAt, ToPipe, FromPipe, Accept}
-use Rattle.ring_core.specs.declared.request.Call.TheVariants.{Open, Connect, Fsync, PollAdd, Path}
-use Rattle.ring_core.specs.declared.request.Told.{Told}
-use Rattle.ring_core.specs.declared.request.Told.TheVariants.{Count, Fail}
-use Rattle.ring_core.specs.declared.world.HandleKind.{HandleKind}
-use Rattle.ring_core.specs.declared.world.HandleKind.TheVariants.{Stream, Datagram, File, Pipe, Listener}
-use Rattle.ring_core.specs.declared.world.HandleState.{HandleState}
-use Rattle.ring_core.specs.declared.ledger.Event.{Event}
-use Rattle.ring_core.specs.declared.ledger.Event.TheVariants.{Give, Feed, FeedMessage, End, Look, Close, Submit, Poll, Drop, Cancel, Turn}
-use Rattle.ring_core.specs.declared.ledger.Event.TheVariants.{Exec}
-use Rattle.ring_core.specs.declared.ledger.Event.TheVariants.{NewCanceller, NewHandle, CancelAll}
-use Rattle.ring_core.specs.declared.ledger.Refusal.{Refusal}
-use Rattle.ring_core.specs.Lists.{amended, passes}
-use Rattle.ring_core.specs.World.{fresh, gives_bytes, is_file, is_pipe, input_at, messages_at, with_input, with_message, with_end}
-use Rattle.ring_core.specs.Request.{call_of, sent_of}
-use Rattle.ring_core.specs.Outcome.{may_receive, may_count, is_allowed}
-use Rattle.ring_core.specs.Effect.{without_front, without_message, with_sent, with_sent_message, with_written, message_effect}
-use Rattle.ring_core.specs.Effect.{count_effect, effect}
-use Rattle.ring_core.specs.Ledger.{Ledger, Operation, Place, InQueue, InFlight, InDone, Reaped, Gone, Queued, Req, Item, Op}
-use Rattle.ring_core.specs.Ledger.{new_operation, user_holds, is_under_marked, group_under, members}
-use Rattle.ring_core.specs.Queue.{with_op, take_all, is_unheld}
-use Rattle.ring_core.specs.Turn.{exec_op, exec_step, complete_at}
-use Rattle.ring_core.specs.Refusal.{cause, allowed, waits}
-use Rattle.ring_core.specs.Step.{step, row, with_new_op, submit_if, group_of, with_mark, handed_over, poll_at, poll_step, with_drop}
-use Rattle.ring_core.specs.Step.{drop_at, drop_step, with_user, close_if}
-use Rattle.ring_core.proofs.Releasing.{released-beside}
+use Rattle.machine.specs.declared.request.Request.{Request}
+use Rattle.machine.specs.declared.request.Call.{Call}
+use Rattle.machine.specs.declared.request.Call.TheVariants.{In, Out, MessageIn, MessageOut, ReadAt, WriteAt, ToPipe, FromPipe, Accept}
+use Rattle.machine.specs.declared.request.Call.TheVariants.{Open, Connect, Fsync, PollAdd, Path}
+use Rattle.machine.specs.declared.request.Told.{Told}
+use Rattle.machine.specs.declared.request.Told.TheVariants.{Count, Fail}
+use Rattle.machine.specs.declared.world.HandleKind.{HandleKind}
+use Rattle.machine.specs.declared.world.HandleKind.TheVariants.{Stream, Datagram, File, Pipe, Listener}
+use Rattle.machine.specs.declared.world.HandleState.{HandleState}
+use Rattle.machine.specs.declared.ledger.Event.{Event}
+use Rattle.machine.specs.declared.ledger.Event.TheVariants.{Give, Feed, FeedMessage, End, Look, Close, Submit, Poll, Drop, Cancel, Turn}
+use Rattle.machine.specs.declared.ledger.Event.TheVariants.{Exec}
+use Rattle.machine.specs.declared.ledger.Event.TheVariants.{NewCanceller, NewHandle, CancelAll}
+use Rattle.machine.specs.declared.ledger.Refusal.{Refusal}
+use Rattle.machine.specs.Lists.{amended, passes}
+use Rattle.machine.specs.World.{fresh, gives_bytes, is_file, is_pipe, input_at, messages_at, with_input, with_message, with_end}
+use Rattle.machine.specs.Request.{call_of, sent_of}
+use Rattle.machine.specs.Outcome.{may_receive, may_count, is_allowed}
+use Rattle.machine.specs.Effect.{without_front, without_message, with_sent, with_sent_message, with_written, message_effect}
+use Rattle.machine.specs.Effect.{count_effect, effect}
+use Rattle.machine.specs.Ledger.{Ledger, Operation, Place, InQueue, InFlight, InDone, Reaped, Gone, Queued, Req, Item, Op}
+use Rattle.machine.specs.Ledger.{new_operation, user_holds, is_under_marked, group_under, members}
+use Rattle.machine.specs.Queue.{with_op, take_all, is_unheld}
+use Rattle.machine.specs.Turn.{exec_op, exec_step, complete_at}
+use Rattle.machine.specs.Refusal.{cause, allowed, waits}
+use Rattle.machine.specs.Step.{step, row, with_new_op, submit_if, group_of, with_mark, handed_over, poll_at, poll_step, with_drop}
+use Rattle.machine.specs.Step.{drop_at, drop_step, with_user, close_if}
+use Rattle.machine.proofs.Releasing.{released-beside}
 use Rattle.run_laws.specs.Transfers.{Transfer, Fed, Taken, Sent, Written, MessageFed, MessageTaken, MessageSent, at_handle, message_taken}
 use Rattle.run_laws.specs.Transfers.{spliced, moved, moved_as, op_moves, item_moves, row_moves, moves_if, event_moves}
-use Rattle.ring_core.proofs.Numbers.{equal-other, and-left, and-right}
-use Rattle.ring_core.proofs.Amended.{changed-cases, joined-cases}
-use Rattle.ring_core.proofs.Staying.{stays-take_all, stays-push, stays-push_each, stays-leave, stays-reap_each}
-use Rattle.ring_core.proofs.Listed.{flying-there}
-use Rattle.ring_core.proofs.Stepping.{step-refused, step-row, held-there, executed-there}
-use Rattle.ring_core.proofs.Lawful.{Lawful}
+use Rattle.machine.proofs.Numbers.{equal-other, and-left, and-right}
+use Rattle.machine.proofs.Amended.{changed-cases, joined-cases}
+use Rattle.machine.proofs.Staying.{stays-take_all, stays-push, stays-push_each, stays-leave, stays-reap_each}
+use Rattle.machine.proofs.Listed.{flying-there}
+use Rattle.machine.proofs.Stepping.{step-refused, step-row, held-there, executed-there}
+use Rattle.machine.proofs.Lawful.{Lawful}
 use Rattle.run_laws.proofs.Ends.{allowed-there}
 use Rattle.run_laws.proofs.Used.{used-held}
 use Rattle.run_laws.proofs.Passing.{after_transfer, Fits, IsLeft, left-fresh, left-end, left-next}

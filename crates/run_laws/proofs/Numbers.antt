@@ -5,28 +5,28 @@ use Rattle.std.proofs.Common.{◌∙◌, ap, arith, length-append}
 use Rattle.std.proofs.lemmas.List.Sums.{sum_by-cons}
 use Rattle.rent_buf.specs.Buffer.{Buffer}
 use Rattle.rent_buf.specs.Parts.{Parts}
-use Rattle.ring_core.specs.declared.request.Request.{Request}
-use Rattle.ring_core.specs.declared.request.Told.{Told}
-use Rattle.ring_core.specs.declared.ledger.Event.{Event}
-use Rattle.ring_core.specs.declared.ledger.Event.TheVariants.{Give, Feed, FeedMessage, End, Look, Close, Submit, Poll, Drop, Cancel, Turn}
-use Rattle.ring_core.specs.declared.ledger.Event.TheVariants.{Exec}
-use Rattle.ring_core.specs.declared.ledger.Event.TheVariants.{NewCanceller, NewHandle, CancelAll}
-use Rattle.ring_core.specs.declared.ledger.Refusal.{Refusal}
-use Rattle.ring_core.specs.declared.ledger.Reply.{Reply}
-use Rattle.ring_core.specs.declared.ledger.Reply.TheVariants.{Submitted}
-use Rattle.ring_core.specs.Ledger.{Ledger, Operation, Place, InQueue, InFlight, InDone, Reaped, Gone, Queued, Item, Op, empty}
-use Rattle.ring_core.specs.Ledger.{new_operation, is_under_marked, group_under, members}
-use Rattle.ring_core.specs.Queue.{take_all, with_op, is_unheld}
-use Rattle.ring_core.specs.Turn.{exec_op, exec_step, with_result, effect_of, complete_at}
-use Rattle.ring_core.specs.Refusal.{cause}
-use Rattle.ring_core.specs.Step.{step, row, answered, poll_at, poll_step, with_drop, drop_at, drop_step, with_task, with_new_op}
-use Rattle.ring_core.specs.Step.{handed_over, with_user, close_if, submit_if, group_of, with_mark}
-use Rattle.ring_core.specs.Run.{after, replies}
+use Rattle.machine.specs.declared.request.Request.{Request}
+use Rattle.machine.specs.declared.request.Told.{Told}
+use Rattle.machine.specs.declared.ledger.Event.{Event}
+use Rattle.machine.specs.declared.ledger.Event.TheVariants.{Give, Feed, FeedMessage, End, Look, Close, Submit, Poll, Drop, Cancel, Turn}
+use Rattle.machine.specs.declared.ledger.Event.TheVariants.{Exec}
+use Rattle.machine.specs.declared.ledger.Event.TheVariants.{NewCanceller, NewHandle, CancelAll}
+use Rattle.machine.specs.declared.ledger.Refusal.{Refusal}
+use Rattle.machine.specs.declared.ledger.Reply.{Reply}
+use Rattle.machine.specs.declared.ledger.Reply.TheVariants.{Submitted}
+use Rattle.machine.specs.Ledger.{Ledger, Operation, Place, InQueue, InFlight, InDone, Reaped, Gone, Queued, Item, Op, empty}
+use Rattle.machine.specs.Ledger.{new_operation, is_under_marked, group_under, members}
+use Rattle.machine.specs.Queue.{take_all, with_op, is_unheld}
+use Rattle.machine.specs.Turn.{exec_op, exec_step, with_result, effect_of, complete_at}
+use Rattle.machine.specs.Refusal.{cause}
+use Rattle.machine.specs.Step.{step, row, answered, poll_at, poll_step, with_drop, drop_at, drop_step, with_task, with_new_op}
+use Rattle.machine.specs.Step.{handed_over, with_user, close_if, submit_if, group_of, with_mark}
+use Rattle.machine.specs.Run.{after, replies}
 use Rattle.run_laws.specs.Headline.{gives_number, GivenInOrder}
-use Rattle.ring_core.proofs.Releasing.{released-beside}
-use Rattle.ring_core.proofs.Amended.{length-amended}
-use Rattle.ring_core.proofs.Taken.{length-take_each, length-make_room}
-use Rattle.ring_core.proofs.Staying.{stays-length, stays-push_each, stays-leave, stays-reap_each}
+use Rattle.machine.proofs.Releasing.{released-beside}
+use Rattle.machine.proofs.Amended.{length-amended}
+use Rattle.machine.proofs.Taken.{length-take_each, length-make_room}
+use Rattle.machine.proofs.Staying.{stays-length, stays-push_each, stays-leave, stays-reap_each}
 use Rattle.run_laws.proofs.Replies.{reply-at, reply-event}
 use Rattle.run_laws.proofs.Looks.{looked}
 

@@ -1,22 +1,22 @@
 -- An operation is handed over once, by the first Poll after its reap; what was handed over or dropped is there no more.
 use Rattle.std.proofs.Common.{◌≡◌, ◌⊎◌, inl, inr, ℕ, ◌<◌, ◌≤◌, Bool, true, false, not, ◌&&◌, List, Option, Some, None, slice_get, refl, sym}
 use Rattle.std.proofs.Common.{◌∙◌, ap, subst, arith}
-use Rattle.ring_core.specs.declared.request.Told.{Told}
-use Rattle.ring_core.specs.declared.ledger.Event.{Event}
-use Rattle.ring_core.specs.declared.ledger.Event.TheVariants.{Give, Feed, FeedMessage, End, Look, Close, Submit, Poll, Drop, Cancel, Turn}
-use Rattle.ring_core.specs.declared.ledger.Event.TheVariants.{Exec}
-use Rattle.ring_core.specs.declared.ledger.Event.TheVariants.{NewCanceller, NewHandle, CancelAll}
-use Rattle.ring_core.specs.declared.ledger.Refusal.{Refusal}
-use Rattle.ring_core.specs.declared.ledger.Refusal.TheVariants.{NoOp}
-use Rattle.ring_core.specs.declared.ledger.Reply.TheVariants.{Refused}
-use Rattle.ring_core.specs.Ledger.{Ledger, Operation, InFlight, Item, empty, is_kept, is_owned}
-use Rattle.ring_core.specs.Lists.{passes}
-use Rattle.ring_core.specs.Refusal.{cause, lacks_op, refused_if}
-use Rattle.ring_core.specs.Run.{replies, ledger_before, IsExecuted}
+use Rattle.machine.specs.declared.request.Told.{Told}
+use Rattle.machine.specs.declared.ledger.Event.{Event}
+use Rattle.machine.specs.declared.ledger.Event.TheVariants.{Give, Feed, FeedMessage, End, Look, Close, Submit, Poll, Drop, Cancel, Turn}
+use Rattle.machine.specs.declared.ledger.Event.TheVariants.{Exec}
+use Rattle.machine.specs.declared.ledger.Event.TheVariants.{NewCanceller, NewHandle, CancelAll}
+use Rattle.machine.specs.declared.ledger.Refusal.{Refusal}
+use Rattle.machine.specs.declared.ledger.Refusal.TheVariants.{NoOp}
+use Rattle.machine.specs.declared.ledger.Reply.TheVariants.{Refused}
+use Rattle.machine.specs.Ledger.{Ledger, Operation, InFlight, Item, empty, is_kept, is_owned}
+use Rattle.machine.specs.Lists.{passes}
+use Rattle.machine.specs.Refusal.{cause, lacks_op, refused_if}
+use Rattle.machine.specs.Run.{replies, ledger_before, IsExecuted}
 use Rattle.run_laws.proofs.Executing.{executed-flew}
 use Rattle.run_laws.specs.Moments.{operation_of, IsAbout, IsReapedBefore, IsGivenBefore, IsHandedBefore, IsDroppedBefore}
 use Rattle.run_laws.specs.Headline.{HandedOnce, DroppedOnce, RefusedWhereGone, FirstPollHands}
-use Rattle.ring_core.proofs.Stepping.{step-refused}
+use Rattle.machine.proofs.Stepping.{step-refused}
 use Rattle.run_laws.proofs.Replies.{reply-at, step-caused}
 use Rattle.run_laws.proofs.Moments.{NotBefore, Given, Hands, Drops, Owned, History}
 use Rattle.run_laws.proofs.Trace.{Trace}

@@ -2,19 +2,19 @@
 use Rattle.std.proofs.Common.{◌≡◌, ◌⊎◌, inl, inr, ℕ, suc, ◌<◌, Bool, true, false, List, [], ◌∷◌, ◌++◌, length, Option, None, Some}
 use Rattle.std.proofs.Common.{slice_get, refl, sym, ◌∙◌, ap, subst, arith}
 use Rattle.std.proofs.lemmas.List.{length-append}
-use Rattle.ring_core.specs.declared.ledger.Event.{Event}
-use Rattle.ring_core.specs.declared.ledger.Event.TheVariants.{NewHandle, CancelAll}
-use Rattle.ring_core.specs.declared.ledger.Reply.{Reply}
-use Rattle.ring_core.specs.declared.ledger.Reply.TheVariants.{CancelHandle, Cancels}
-use Rattle.ring_core.specs.Lists.{amended}
-use Rattle.ring_core.specs.Ledger.{Ledger, empty}
-use Rattle.ring_core.specs.Run.{replies, IsGiven}
+use Rattle.machine.specs.declared.ledger.Event.{Event}
+use Rattle.machine.specs.declared.ledger.Event.TheVariants.{NewHandle, CancelAll}
+use Rattle.machine.specs.declared.ledger.Reply.{Reply}
+use Rattle.machine.specs.declared.ledger.Reply.TheVariants.{CancelHandle, Cancels}
+use Rattle.machine.specs.Lists.{amended}
+use Rattle.machine.specs.Ledger.{Ledger, empty}
+use Rattle.machine.specs.Run.{replies, IsGiven}
 use Rattle.run_laws.specs.Groups.{CreatesHandle, IsCanceledBetween}
-use Rattle.ring_core.proofs.Numbers.{same-or-not}
-use Rattle.ring_core.proofs.Amended.{get-amended-same, get-amended-other, joined-cases}
-use Rattle.ring_core.proofs.Staying.{Groups, groups_of}
-use Rattle.ring_core.proofs.Grouping.{op_groups, with_canceller, with_handle_of, renewed}
-use Rattle.ring_core.proofs.Grouped.{get-append-keeps, marked-other}
+use Rattle.machine.proofs.Numbers.{same-or-not}
+use Rattle.machine.proofs.Amended.{get-amended-same, get-amended-other, joined-cases}
+use Rattle.machine.proofs.Staying.{Groups, groups_of}
+use Rattle.machine.proofs.Grouping.{op_groups, with_canceller, with_handle_of, renewed}
+use Rattle.machine.proofs.Grouped.{get-append-keeps, marked-other}
 
 -- An event with this reply creates no cancel handle, and cancels no group.
 pub record IsStill (e : Event) (r : Reply) : Type 0 where

@@ -2,23 +2,23 @@
 use Rattle.std.proofs.Common.{◌≡◌, inl, inr, ℕ, zero, suc, ◌+◌, ◌-◌, ◌≤◌, ◌<◌, Bool, true, false, ◌&&◌, List, length, Option}
 use Rattle.std.proofs.Common.{None, Some, slice_get, refl, sym, ◌∙◌, ap, subst, arith}
 use Rattle.std.proofs.lemmas.Option.{slice_get_cases, slice_get_within}
-use Rattle.ring_core.specs.declared.ledger.Event.{Event}
-use Rattle.ring_core.specs.declared.ledger.Refusal.{Refusal}
-use Rattle.ring_core.specs.declared.ledger.Event.TheVariants.{Submit}
-use Rattle.ring_core.specs.declared.ledger.Reply.TheVariants.{Submitted, Refused}
-use Rattle.ring_core.specs.Lists.{has_number}
-use Rattle.ring_core.specs.Request.{named}
-use Rattle.ring_core.specs.Ledger.{Ledger, Operation, Place, InQueue, InFlight, InDone, Reaped, Gone, empty, is_kept, holds}
-use Rattle.ring_core.specs.Queue.{is_unheld}
-use Rattle.ring_core.specs.Refusal.{cause}
-use Rattle.ring_core.specs.Run.{ledger_before, IsGiven}
+use Rattle.machine.specs.declared.ledger.Event.{Event}
+use Rattle.machine.specs.declared.ledger.Refusal.{Refusal}
+use Rattle.machine.specs.declared.ledger.Event.TheVariants.{Submit}
+use Rattle.machine.specs.declared.ledger.Reply.TheVariants.{Submitted, Refused}
+use Rattle.machine.specs.Lists.{has_number}
+use Rattle.machine.specs.Request.{named}
+use Rattle.machine.specs.Ledger.{Ledger, Operation, Place, InQueue, InFlight, InDone, Reaped, Gone, empty, is_kept, holds}
+use Rattle.machine.specs.Queue.{is_unheld}
+use Rattle.machine.specs.Refusal.{cause}
+use Rattle.machine.specs.Run.{ledger_before, IsGiven}
 use Rattle.run_laws.specs.Moments.{IsReapedBefore}
 use Rattle.run_laws.specs.Closes.{IsGivenOn, IsOverBefore}
 use Rattle.run_laws.specs.Closes.{ClosedWhenOver, ClosedWhenMakerOver}
-use Rattle.ring_core.proofs.Numbers.{same-or-not, below-or-above}
-use Rattle.ring_core.proofs.Holders.{unheld-is}
-use Rattle.ring_core.proofs.Leaving.{holds-named}
-use Rattle.ring_core.proofs.Stepping.{step-refused, submitted-held}
+use Rattle.machine.proofs.Numbers.{same-or-not, below-or-above}
+use Rattle.machine.proofs.Holders.{unheld-is}
+use Rattle.machine.proofs.Leaving.{holds-named}
+use Rattle.machine.proofs.Stepping.{step-refused, submitted-held}
 use Rattle.run_laws.proofs.Replies.{reply-at, after-next}
 use Rattle.run_laws.proofs.Moments.{Placed, Owned, History}
 use Rattle.run_laws.proofs.Polls.{traced, given-once}

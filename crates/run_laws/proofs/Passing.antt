@@ -5,15 +5,15 @@ use Rattle.std.specs.List.{flat_map}
 use Rattle.std.proofs.lemmas.List.{append-nil, append_assoc, take-append-drop}
 use Rattle.std.proofs.lemmas.List.Concat.{flat_map-cons}
 use Rattle.std.proofs.lemmas.Grind.{flat_map-append}
-use Rattle.ring_core.specs.declared.world.HandleKind.{HandleKind}
-use Rattle.ring_core.specs.declared.world.HandleKind.TheVariants.{Stream, Datagram, File, Pipe, Listener}
-use Rattle.ring_core.specs.declared.world.HandleState.{HandleState}
-use Rattle.ring_core.specs.World.{fresh, is_file, with_input, with_output, with_message, with_end}
-use Rattle.ring_core.specs.Effect.{without_front, without_message, sent_to_kind, with_sent, with_sent_message, with_written}
+use Rattle.machine.specs.declared.world.HandleKind.{HandleKind}
+use Rattle.machine.specs.declared.world.HandleKind.TheVariants.{Stream, Datagram, File, Pipe, Listener}
+use Rattle.machine.specs.declared.world.HandleState.{HandleState}
+use Rattle.machine.specs.World.{fresh, is_file, with_input, with_output, with_message, with_end}
+use Rattle.machine.specs.Effect.{without_front, without_message, sent_to_kind, with_sent, with_sent_message, with_written}
 use Rattle.run_laws.specs.Transfers.{Transfer, Fed, Taken, Sent, Written, MessageFed, MessageTaken, MessageSent}
 use Rattle.run_laws.specs.Bytes.{sent_in, sent_out, brought, taken, put_out, message_brought, message_left, message_put_out}
 use Rattle.run_laws.specs.Files.{Piece, pieces}
-use Rattle.ring_core.proofs.Keeping.{drop-suc}
+use Rattle.machine.proofs.Appended.{drop-suc}
 use Rattle.run_laws.proofs.Files.{Holds, holds-none, holds-fed, holds-written}
 
 -- A handle after a transfer.

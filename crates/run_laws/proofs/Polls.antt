@@ -1,17 +1,17 @@
 -- The moments of an operation, each at most once, and what a Poll is answered, from the trace of the ledger before each event.
 use Rattle.std.proofs.Common.{◌≡◌, ◌⊎◌, inl, inr, ℕ, ◌<◌, ◌≤◌, true, List, length, Some, None, slice_get, sym, ◌∙◌, ap, subst, arith}
 use Rattle.std.proofs.lemmas.Option.{slice_get_within, slice_get_past}
-use Rattle.ring_core.specs.declared.ledger.Event.{Event}
-use Rattle.ring_core.specs.declared.ledger.Event.TheVariants.{Submit, Poll, Exec}
-use Rattle.ring_core.specs.declared.ledger.Reply.TheVariants.{Pending}
-use Rattle.ring_core.specs.Ledger.{Ledger, Operation, Place, InQueue, InFlight, InDone, Reaped, Gone, empty, is_kept}
-use Rattle.ring_core.specs.Step.{poll_at, poll_step}
-use Rattle.ring_core.specs.Run.{replies, ledger_before, IsGiven, IsReaped, own_answer}
+use Rattle.machine.specs.declared.ledger.Event.{Event}
+use Rattle.machine.specs.declared.ledger.Event.TheVariants.{Submit, Poll, Exec}
+use Rattle.machine.specs.declared.ledger.Reply.TheVariants.{Pending}
+use Rattle.machine.specs.Ledger.{Ledger, Operation, Place, InQueue, InFlight, InDone, Reaped, Gone, empty, is_kept}
+use Rattle.machine.specs.Step.{poll_at, poll_step}
+use Rattle.machine.specs.Run.{replies, ledger_before, IsGiven, IsReaped, own_answer}
 use Rattle.run_laws.proofs.Executing.{executed-flew}
 use Rattle.run_laws.specs.Moments.{IsPolled, IsReapedBefore, HandsOwn}
 use Rattle.run_laws.specs.Headline.{PendingUntilReaped, ReapedOrNot, HandsBackOwn, GivenOnce, ExecutedOnce, ReapedOnce, OneOwn}
-use Rattle.ring_core.proofs.Numbers.{same-or-not, below-or-above}
-use Rattle.ring_core.proofs.Stepping.{step-row, OwnedAt, found}
+use Rattle.machine.proofs.Numbers.{same-or-not, below-or-above}
+use Rattle.machine.proofs.Stepping.{step-row, OwnedAt, found}
 use Rattle.run_laws.proofs.Replies.{reply-at}
 use Rattle.run_laws.proofs.Moments.{NotBefore, Executes, Placed, History, reaped-before}
 use Rattle.run_laws.proofs.Trace.{Trace}

@@ -5,27 +5,27 @@ use Rattle.std.proofs.Common.{arith}
 use Rattle.std.proofs.lemmas.Option.{slice_get_cases}
 use Rattle.rent_buf.specs.Buffer.{Buffer}
 use Rattle.rent_buf.specs.Parts.{Parts}
-use Rattle.ring_core.specs.declared.request.Request.{Request}
-use Rattle.ring_core.specs.declared.request.Told.{Told}
-use Rattle.ring_core.specs.declared.ledger.Event.{Event}
-use Rattle.ring_core.specs.declared.ledger.Event.TheVariants.{Give, Feed, FeedMessage, End, Look, Close, Submit, Poll, Drop, Cancel, Turn}
-use Rattle.ring_core.specs.declared.ledger.Event.TheVariants.{Exec}
-use Rattle.ring_core.specs.declared.ledger.Event.TheVariants.{NewCanceller, NewHandle, CancelAll}
-use Rattle.ring_core.specs.declared.ledger.Refusal.{Refusal}
-use Rattle.ring_core.specs.declared.ledger.Reply.TheVariants.{Released, Dropped, Asked, ExecutedClose, Refused}
-use Rattle.ring_core.specs.Ledger.{Ledger, Operation, InFlight, Queued, Item, Op, empty, is_under_marked, group_under, members}
-use Rattle.ring_core.specs.Queue.{with_op, push, push_each, is_unheld}
-use Rattle.ring_core.specs.Turn.{effect_of, complete_at, exec_op, exec_step, released}
-use Rattle.ring_core.specs.Lists.{has_number}
-use Rattle.ring_core.specs.Refusal.{cause}
-use Rattle.ring_core.specs.Step.{step, row, poll_at, poll_step, with_drop, drop_at, drop_step, with_user, close_if}
-use Rattle.ring_core.specs.Step.{submit_if, new_canceller_step, group_of, new_handle_step, with_mark, renew_group}
-use Rattle.ring_core.specs.Run.{replies, ledger_before}
-use Rattle.ring_core.proofs.Listed.{flying-there, listed-push_cancel}
-use Rattle.ring_core.proofs.Leaving.{has-first, has-later}
-use Rattle.ring_core.proofs.Taking.{flight_mark, Listed}
-use Rattle.ring_core.proofs.Stepping.{step-refused, step-row, OwnedAt, found, executed-there}
-use Rattle.ring_core.proofs.Lawful.{Lawful, lawful-ledger, lawful-executed}
+use Rattle.machine.specs.declared.request.Request.{Request}
+use Rattle.machine.specs.declared.request.Told.{Told}
+use Rattle.machine.specs.declared.ledger.Event.{Event}
+use Rattle.machine.specs.declared.ledger.Event.TheVariants.{Give, Feed, FeedMessage, End, Look, Close, Submit, Poll, Drop, Cancel, Turn}
+use Rattle.machine.specs.declared.ledger.Event.TheVariants.{Exec}
+use Rattle.machine.specs.declared.ledger.Event.TheVariants.{NewCanceller, NewHandle, CancelAll}
+use Rattle.machine.specs.declared.ledger.Refusal.{Refusal}
+use Rattle.machine.specs.declared.ledger.Reply.TheVariants.{Released, Dropped, Asked, ExecutedClose, Refused}
+use Rattle.machine.specs.Ledger.{Ledger, Operation, InFlight, Queued, Item, Op, empty, is_under_marked, group_under, members}
+use Rattle.machine.specs.Queue.{with_op, push, push_each, is_unheld}
+use Rattle.machine.specs.Turn.{effect_of, complete_at, exec_op, exec_step, released}
+use Rattle.machine.specs.Lists.{has_number}
+use Rattle.machine.specs.Refusal.{cause}
+use Rattle.machine.specs.Step.{step, row, poll_at, poll_step, with_drop, drop_at, drop_step, with_user, close_if}
+use Rattle.machine.specs.Step.{submit_if, new_canceller_step, group_of, new_handle_step, with_mark, renew_group}
+use Rattle.machine.specs.Run.{replies, ledger_before}
+use Rattle.machine.proofs.Listed.{flying-there, listed-push_cancel}
+use Rattle.machine.proofs.Leaving.{has-first, has-later}
+use Rattle.machine.proofs.Taking.{flight_mark, Listed}
+use Rattle.machine.proofs.Stepping.{step-refused, step-row, OwnedAt, found, executed-there}
+use Rattle.machine.proofs.Lawful.{Lawful, lawful-ledger, lawful-executed}
 use Rattle.run_laws.proofs.Replies.{reply-at, after-next, dropped-row}
 use Rattle.run_laws.proofs.Trace.{AskedBefore, Trace, trace-closes, trace-world, trace-turn, trace-submit, trace-polled, trace-executed}
 use Rattle.run_laws.proofs.Dropped.{trace-pushed, trace-dropped}

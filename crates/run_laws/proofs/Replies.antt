@@ -3,23 +3,23 @@ use Rattle.std.proofs.Common.{◌≡◌, ℕ, zero, suc, Bool, true, false, List
 use Rattle.std.proofs.Common.{refl, sym, ◌∙◌, ap}
 use Rattle.rent_buf.specs.Buffer.{Buffer}
 use Rattle.rent_buf.specs.Parts.{Parts}
-use Rattle.ring_core.specs.declared.request.Request.{Request}
-use Rattle.ring_core.specs.declared.request.Told.{Told}
-use Rattle.ring_core.specs.declared.ledger.Event.{Event}
-use Rattle.ring_core.specs.declared.ledger.Event.TheVariants.{Give, Feed, FeedMessage, End, Look, Close, Submit, Poll, Drop, Cancel, Turn}
-use Rattle.ring_core.specs.declared.ledger.Event.TheVariants.{Exec}
-use Rattle.ring_core.specs.declared.ledger.Event.TheVariants.{NewCanceller, NewHandle, CancelAll}
-use Rattle.ring_core.specs.declared.ledger.Reply.{Reply}
-use Rattle.ring_core.specs.declared.ledger.Reply.TheVariants.{Dropped, ExecutedOp, Refused}
-use Rattle.ring_core.specs.declared.ledger.Refusal.{Refusal}
-use Rattle.ring_core.specs.Ledger.{Ledger, Operation, Place, InQueue, InFlight, InDone, Reaped, Gone, Item, Op, empty}
-use Rattle.ring_core.specs.Ledger.{is_under_marked, group_under}
-use Rattle.ring_core.specs.Refusal.{cause}
-use Rattle.ring_core.specs.Turn.{exec_step}
-use Rattle.ring_core.specs.Step.{step, row, answered, submit_if, poll_at, poll_step, drop_step}
-use Rattle.ring_core.specs.Run.{after, replies, ledger_before, IsExecuted}
-pub use Rattle.ring_core.proofs.Stepping.{step-refused, step-row}
-use Rattle.ring_core.proofs.Stepping.{OwnedAt, found, executed-there}
+use Rattle.machine.specs.declared.request.Request.{Request}
+use Rattle.machine.specs.declared.request.Told.{Told}
+use Rattle.machine.specs.declared.ledger.Event.{Event}
+use Rattle.machine.specs.declared.ledger.Event.TheVariants.{Give, Feed, FeedMessage, End, Look, Close, Submit, Poll, Drop, Cancel, Turn}
+use Rattle.machine.specs.declared.ledger.Event.TheVariants.{Exec}
+use Rattle.machine.specs.declared.ledger.Event.TheVariants.{NewCanceller, NewHandle, CancelAll}
+use Rattle.machine.specs.declared.ledger.Reply.{Reply}
+use Rattle.machine.specs.declared.ledger.Reply.TheVariants.{Dropped, ExecutedOp, Refused}
+use Rattle.machine.specs.declared.ledger.Refusal.{Refusal}
+use Rattle.machine.specs.Ledger.{Ledger, Operation, Place, InQueue, InFlight, InDone, Reaped, Gone, Item, Op, empty}
+use Rattle.machine.specs.Ledger.{is_under_marked, group_under}
+use Rattle.machine.specs.Refusal.{cause}
+use Rattle.machine.specs.Turn.{exec_step}
+use Rattle.machine.specs.Step.{step, row, answered, submit_if, poll_at, poll_step, drop_step}
+use Rattle.machine.specs.Run.{after, replies, ledger_before, IsExecuted}
+pub use Rattle.machine.proofs.Stepping.{step-refused, step-row}
+use Rattle.machine.proofs.Stepping.{OwnedAt, found, executed-there}
 use Rattle.run_laws.specs.Headline.{RefusedExactly}
 use Rattle.run_laws.proofs.Looks.{looked}
 

@@ -5,29 +5,29 @@ use Rattle.std.proofs.Common.{Option, Some, None, option_map, slice_get, refl, s
 use Rattle.std.specs.Prelude.{◌==◌, if◌then◌else◌}
 use Rattle.std.proofs.lemmas.Option.{slice_get_cases, slice_get_within}
 use Rattle.std.proofs.lemmas.List.{append_assoc}
-use Rattle.ring_core.specs.declared.request.Told.{Told}
-use Rattle.ring_core.specs.declared.request.Told.TheVariants.{Count, Fail}
-use Rattle.ring_core.specs.declared.ledger.Event.{Event}
-use Rattle.ring_core.specs.declared.ledger.Event.TheVariants.{Give, Feed, FeedMessage, End, Look, Submit, Poll, Drop, Cancel, Turn}
-use Rattle.ring_core.specs.declared.ledger.Event.TheVariants.{Exec, NewCanceller, NewHandle, CancelAll}
-use Rattle.ring_core.specs.declared.ledger.Refusal.{Refusal}
-use Rattle.ring_core.specs.Lists.{passes}
-use Rattle.ring_core.specs.Ledger.{Ledger, Operation, InFlight, Item, Op, empty}
-use Rattle.ring_core.specs.Turn.{without_wait, unless_waits, waiting_on, with_result, effect_of, exec_op, exec_step, complete_at}
-use Rattle.ring_core.specs.Step.{step, row}
-use Rattle.ring_core.specs.Refusal.{cause}
-use Rattle.ring_core.specs.Run.{after, ledger_before}
+use Rattle.machine.specs.declared.request.Told.{Told}
+use Rattle.machine.specs.declared.request.Told.TheVariants.{Count, Fail}
+use Rattle.machine.specs.declared.ledger.Event.{Event}
+use Rattle.machine.specs.declared.ledger.Event.TheVariants.{Give, Feed, FeedMessage, End, Look, Submit, Poll, Drop, Cancel, Turn}
+use Rattle.machine.specs.declared.ledger.Event.TheVariants.{Exec, NewCanceller, NewHandle, CancelAll}
+use Rattle.machine.specs.declared.ledger.Refusal.{Refusal}
+use Rattle.machine.specs.Lists.{passes}
+use Rattle.machine.specs.Ledger.{Ledger, Operation, InFlight, Item, Op, empty}
+use Rattle.machine.specs.Turn.{without_wait, unless_waits, waiting_on, with_result, effect_of, exec_op, exec_step, complete_at}
+use Rattle.machine.specs.Step.{step, row}
+use Rattle.machine.specs.Refusal.{cause}
+use Rattle.machine.specs.Run.{after, ledger_before}
 use Rattle.run_laws.specs.Transfers.{Transfer, event_moves, transfers}
 use Rattle.run_laws.specs.Waits.{IsNext, WaitsOnceTaken, WaitsOnlyTaken, IsWaiting, Runs, EndsBetween, StartsAfterLeader, MovesBehindLeader}
-use Rattle.ring_core.proofs.Numbers.{same-or-not, below-or-not, equal-other}
-use Rattle.ring_core.proofs.Occurring.{queued}
-use Rattle.ring_core.proofs.Taking.{in_queue, in_flight, queue_mark, flight_mark, Listed}
-use Rattle.ring_core.proofs.Listed.{flying-there}
-use Rattle.ring_core.proofs.Amended.{get-map}
-use Rattle.ring_core.proofs.Releasing.{with_waits, released-beside, break_each-ops, waiting-flown}
-use Rattle.ring_core.proofs.Lawful.{queued-there, lawful-executed, lawful-ledger}
-use Rattle.ring_core.proofs.Stepping.{step-refused, step-row, executed-there}
-use Rattle.ring_core.proofs.Behind.{awaited, no-number, same-at, unless-awaits}
+use Rattle.machine.proofs.Numbers.{same-or-not, below-or-not, equal-other}
+use Rattle.machine.proofs.Occurring.{queued}
+use Rattle.machine.proofs.Taking.{in_queue, in_flight, queue_mark, flight_mark, Listed}
+use Rattle.machine.proofs.Listed.{flying-there}
+use Rattle.machine.proofs.Amended.{get-map}
+use Rattle.machine.proofs.Releasing.{with_waits, released-beside, break_each-ops, waiting-flown}
+use Rattle.machine.proofs.Lawful.{queued-there, lawful-executed, lawful-ledger}
+use Rattle.machine.proofs.Stepping.{step-refused, step-row, executed-there}
+use Rattle.machine.proofs.Behind.{awaited, no-number, same-at, unless-awaits}
 use Rattle.run_laws.proofs.Replies.{after-next}
 use Rattle.run_laws.proofs.Moments.{NotBefore, Executes, Placed, History, is_exec}
 use Rattle.run_laws.proofs.Reached.{reached}

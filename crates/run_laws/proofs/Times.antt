@@ -1,10 +1,10 @@
 -- How often a handle is in a list of handles, as a turn names them.
 use Rattle.std.proofs.Common.{◌≡◌, inl, inr, ℕ, zero, suc, ◌+◌, ◌≤◌, List, [], ◌∷◌}
 use Rattle.std.proofs.Common.{Some, slice_get, refl, sym, ap, arith}
-use Rattle.ring_core.specs.Ledger.{Item, Op}
-use Rattle.ring_core.specs.Turn.{closes_in}
-use Rattle.ring_core.specs.Closes.{closes_listed}
-use Rattle.ring_core.proofs.Occurring.{same, same-cases}
+use Rattle.machine.specs.Ledger.{Item, Op}
+use Rattle.machine.specs.Turn.{closes_in}
+use Rattle.machine.specs.Closes.{closes_listed}
+use Rattle.machine.proofs.Occurring.{same, same-cases}
 
 -- How often a handle is in a list of handles.
 abbrev pub times : ℕ → List ℕ → ℕ

@@ -4,36 +4,36 @@ use Rattle.std.proofs.Common.{slice_get, refl, sym}
 use Rattle.std.proofs.Common.{◌∙◌, ap, subst, arith}
 use Rattle.rent_buf.specs.Buffer.{Buffer}
 use Rattle.rent_buf.specs.Parts.{Parts}
-use Rattle.ring_core.specs.declared.world.HandleState.{HandleState}
-use Rattle.ring_core.specs.declared.request.Request.{Request}
-use Rattle.ring_core.specs.declared.request.Told.{Told}
-use Rattle.ring_core.specs.declared.request.Outcome.{Outcome}
-use Rattle.ring_core.specs.declared.ledger.Event.{Event}
-use Rattle.ring_core.specs.declared.ledger.Event.TheVariants.{Submit, Poll, Turn, Exec}
-use Rattle.ring_core.specs.declared.ledger.Reply.{Reply}
-use Rattle.ring_core.specs.declared.ledger.Reply.TheVariants.{Submitted, Pending, Handed, ExecutedOp}
-use Rattle.ring_core.specs.declared.request.TheConstants.{CANCELED}
-use Rattle.ring_core.specs.Lists.{amended}
-use Rattle.ring_core.specs.Request.{held, held_of}
-use Rattle.ring_core.specs.Effect.{Effect}
-use Rattle.ring_core.specs.Ledger.{Ledger, Operation, Owner, Place, InQueue, InFlight, InDone, Reaped, Gone, Queued, Op, empty}
-use Rattle.ring_core.specs.Ledger.{new_operation}
-use Rattle.ring_core.specs.Ledger.{is_kept}
-use Rattle.ring_core.specs.Queue.{with_op, at_place, take_all, make_room, push_each, became_unheld, with_gone, leave}
-use Rattle.ring_core.specs.Turn.{turn_step, effect_of, with_result, with_effect, complete_at, with_break, released}
-use Rattle.ring_core.specs.Step.{submit_step, with_task, handed_over, poll_at}
-use Rattle.ring_core.specs.Run.{replies, ledger_before, IsExecuted, own_answer}
-use Rattle.ring_core.proofs.Taken.{length-make_room}
+use Rattle.machine.specs.declared.world.HandleState.{HandleState}
+use Rattle.machine.specs.declared.request.Request.{Request}
+use Rattle.machine.specs.declared.request.Told.{Told}
+use Rattle.machine.specs.declared.request.Outcome.{Outcome}
+use Rattle.machine.specs.declared.ledger.Event.{Event}
+use Rattle.machine.specs.declared.ledger.Event.TheVariants.{Submit, Poll, Turn, Exec}
+use Rattle.machine.specs.declared.ledger.Reply.{Reply}
+use Rattle.machine.specs.declared.ledger.Reply.TheVariants.{Submitted, Pending, Handed, ExecutedOp}
+use Rattle.machine.specs.declared.request.TheConstants.{CANCELED}
+use Rattle.machine.specs.Lists.{amended}
+use Rattle.machine.specs.Request.{held, held_of}
+use Rattle.machine.specs.Effect.{Effect}
+use Rattle.machine.specs.Ledger.{Ledger, Operation, Owner, Place, InQueue, InFlight, InDone, Reaped, Gone, Queued, Op, empty}
+use Rattle.machine.specs.Ledger.{new_operation}
+use Rattle.machine.specs.Ledger.{is_kept}
+use Rattle.machine.specs.Queue.{with_op, at_place, take_all, make_room, push_each, became_unheld, with_gone, leave}
+use Rattle.machine.specs.Turn.{turn_step, effect_of, with_result, with_effect, complete_at, with_break, released}
+use Rattle.machine.specs.Step.{submit_step, with_task, handed_over, poll_at}
+use Rattle.machine.specs.Run.{replies, ledger_before, IsExecuted, own_answer}
+use Rattle.machine.proofs.Taken.{length-make_room}
 use Rattle.run_laws.specs.Moments.{IsHanded, IsCanceledBefore}
-use Rattle.ring_core.proofs.Numbers.{same-or-not}
-use Rattle.ring_core.proofs.Amended.{get-amended, get-amended-other, changed-cases, joined-cases}
-use Rattle.ring_core.proofs.Releasing.{with_waits, Stayed, Broke, released-ops}
-use Rattle.ring_core.proofs.Taking.{in_queue, in_flight, in_done, flight_mark, Listed, take_all-ops, listed-take_all}
-use Rattle.ring_core.proofs.Reaping.{reap_all-ops, closed-take_all}
-use Rattle.ring_core.proofs.Listed.{joined, submit-joined, MayTake, make_room-ops, push_closes-ops}
-use Rattle.ring_core.proofs.Ending.{listed-gone}
-use Rattle.ring_core.proofs.Lawful.{handed-there}
-use Rattle.ring_core.proofs.Alone.{listed-handed}
+use Rattle.machine.proofs.Numbers.{same-or-not}
+use Rattle.machine.proofs.Amended.{get-amended, get-amended-other, changed-cases, joined-cases}
+use Rattle.machine.proofs.Releasing.{with_waits, Stayed, Broke, released-ops}
+use Rattle.machine.proofs.Taking.{in_queue, in_flight, in_done, flight_mark, Listed, take_all-ops, listed-take_all}
+use Rattle.machine.proofs.Reaping.{reap_all-ops, closed-take_all}
+use Rattle.machine.proofs.Listed.{joined, submit-joined, MayTake, make_room-ops, push_closes-ops}
+use Rattle.machine.proofs.Ending.{listed-gone}
+use Rattle.machine.proofs.Lawful.{handed-there}
+use Rattle.machine.proofs.Alone.{listed-handed}
 use Rattle.run_laws.proofs.Asked.{Asked, asked-more, asked-op, asked-push_closes, asked-take_all, asked-make_room, asked-joined}
 use Rattle.run_laws.proofs.Asked.{asked-reap_all, asked-released}
 use Rattle.run_laws.proofs.Executing.{own-itself, own-other, stayed-mark}

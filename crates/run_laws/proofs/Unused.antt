@@ -4,34 +4,34 @@ use Rattle.std.proofs.Common.{None, Some, slice_get, refl, sym, ◌∙◌, ap, s
 use Rattle.std.proofs.lemmas.List.{append-nil}
 use Rattle.rent_buf.specs.Buffer.{Buffer}
 use Rattle.rent_buf.specs.Parts.{Parts}
-use Rattle.ring_core.specs.declared.request.Request.{Request}
-use Rattle.ring_core.specs.declared.request.Told.{Told}
-use Rattle.ring_core.specs.declared.ledger.Event.{Event}
-use Rattle.ring_core.specs.declared.ledger.Event.TheVariants.{Give, Feed, FeedMessage, End, Look, Close, Submit, Poll, Drop, Cancel, Turn}
-use Rattle.ring_core.specs.declared.ledger.Event.TheVariants.{Exec}
-use Rattle.ring_core.specs.declared.ledger.Event.TheVariants.{NewCanceller, NewHandle, CancelAll}
-use Rattle.ring_core.specs.declared.ledger.Refusal.{Refusal}
-use Rattle.ring_core.specs.declared.ledger.Reply.TheVariants.{Released}
-use Rattle.ring_core.specs.Lists.{passes}
-use Rattle.ring_core.specs.Request.{call_of, sent_of}
-use Rattle.ring_core.specs.Effect.{made_by}
-use Rattle.ring_core.specs.Ledger.{Ledger, Operation, Owner, Place, InQueue, InFlight, InDone, Reaped, Gone, Queued, Req, Item, Op}
-use Rattle.ring_core.specs.Ledger.{new_operation, user_holds, is_under_marked, group_under, members}
-use Rattle.ring_core.specs.Queue.{with_op, take_all, is_unheld}
-use Rattle.ring_core.specs.Turn.{made_owners, effect_of, exec_op, exec_step, complete_at}
-use Rattle.ring_core.specs.Step.{new_owner, step, row, with_new_op, submit_if, group_of, with_mark, handed_over, poll_at, poll_step}
-use Rattle.ring_core.specs.Step.{with_drop, drop_at, drop_step, as_user, with_user, close_if}
-use Rattle.ring_core.specs.Refusal.{cause}
-use Rattle.ring_core.specs.Closes.{AreKnown}
-use Rattle.ring_core.proofs.Releasing.{released-beside}
-use Rattle.ring_core.proofs.Numbers.{same-or-not, below-or-not}
-use Rattle.ring_core.proofs.Amended.{length-amended}
-use Rattle.ring_core.proofs.Appended.{get-append-within, get-append-end}
-use Rattle.ring_core.proofs.Staying.{stays-take_all, stays-push, stays-push_each, stays-leave, stays-reap_each}
-use Rattle.ring_core.proofs.Users.{user-with_user, user-with_user-other}
-use Rattle.ring_core.proofs.Closing.{known-lists}
-use Rattle.ring_core.proofs.Turning.{grows-effect}
-use Rattle.ring_core.proofs.Stepping.{step-refused, step-row}
+use Rattle.machine.specs.declared.request.Request.{Request}
+use Rattle.machine.specs.declared.request.Told.{Told}
+use Rattle.machine.specs.declared.ledger.Event.{Event}
+use Rattle.machine.specs.declared.ledger.Event.TheVariants.{Give, Feed, FeedMessage, End, Look, Close, Submit, Poll, Drop, Cancel, Turn}
+use Rattle.machine.specs.declared.ledger.Event.TheVariants.{Exec}
+use Rattle.machine.specs.declared.ledger.Event.TheVariants.{NewCanceller, NewHandle, CancelAll}
+use Rattle.machine.specs.declared.ledger.Refusal.{Refusal}
+use Rattle.machine.specs.declared.ledger.Reply.TheVariants.{Released}
+use Rattle.machine.specs.Lists.{passes}
+use Rattle.machine.specs.Request.{call_of, sent_of}
+use Rattle.machine.specs.Effect.{made_by}
+use Rattle.machine.specs.Ledger.{Ledger, Operation, Owner, Place, InQueue, InFlight, InDone, Reaped, Gone, Queued, Req, Item, Op}
+use Rattle.machine.specs.Ledger.{new_operation, user_holds, is_under_marked, group_under, members}
+use Rattle.machine.specs.Queue.{with_op, take_all, is_unheld}
+use Rattle.machine.specs.Turn.{made_owners, effect_of, exec_op, exec_step, complete_at}
+use Rattle.machine.specs.Step.{new_owner, step, row, with_new_op, submit_if, group_of, with_mark, handed_over, poll_at, poll_step}
+use Rattle.machine.specs.Step.{with_drop, drop_at, drop_step, as_user, with_user, close_if}
+use Rattle.machine.specs.Refusal.{cause}
+use Rattle.machine.specs.Closes.{AreKnown}
+use Rattle.machine.proofs.Releasing.{released-beside}
+use Rattle.machine.proofs.Numbers.{same-or-not, below-or-not}
+use Rattle.machine.proofs.Amended.{length-amended}
+use Rattle.machine.proofs.Appended.{get-append-within, get-append-end}
+use Rattle.machine.proofs.Staying.{stays-take_all, stays-push, stays-push_each, stays-leave, stays-reap_each}
+use Rattle.machine.proofs.Users.{user-with_user, user-with_user-other}
+use Rattle.machine.proofs.Closing.{known-lists}
+use Rattle.machine.proofs.Turning.{grows-effect}
+use Rattle.machine.proofs.Stepping.{step-refused, step-row}
 
 -- A handle is there, and its user doesn't hold it.
 abbrev pub Unused : Ledger → ℕ → Type 0

@@ -2,34 +2,34 @@
 use Rattle.std.proofs.Common.{◌≡◌, ◌⊎◌, inl, inr, ℕ, zero, suc, ◌≤◌, ◌<◌, ◌==◌, true, false, ◌||◌, List, [], ◌∷◌, ◌++◌, length, map}
 use Rattle.std.proofs.Common.{Option, None, Some, slice_get, refl, sym, ◌∙◌, ap, subst, arith, true≢false}
 use Rattle.std.proofs.lemmas.Option.{slice_get_cases, slice_get_within}
-use Rattle.ring_core.specs.declared.request.Told.{Told}
-use Rattle.ring_core.specs.declared.request.Outcome.{Outcome}
-use Rattle.ring_core.specs.declared.ledger.Event.{Event}
-use Rattle.ring_core.specs.declared.ledger.Event.TheVariants.{Give, Feed, FeedMessage, End, Look, Close, Submit, Poll, Drop, Cancel, Turn}
-use Rattle.ring_core.specs.declared.ledger.Event.TheVariants.{Exec}
-use Rattle.ring_core.specs.declared.ledger.Event.TheVariants.{NewCanceller, NewHandle, CancelAll}
-use Rattle.ring_core.specs.declared.ledger.Refusal.{Refusal}
-use Rattle.ring_core.specs.declared.ledger.Refusal.TheVariants.{NoHandle}
-use Rattle.ring_core.specs.Lists.{passes}
-use Rattle.ring_core.specs.Ledger.{Ledger, Operation, Owner, Place, InQueue, InFlight, InDone, Reaped, Gone, Queued, Item, Op, empty}
-use Rattle.ring_core.specs.Ledger.{is_kept, user_holds, is_under_marked, group_under, members}
-use Rattle.ring_core.specs.Queue.{take_all, is_unheld}
-use Rattle.ring_core.specs.Turn.{effect_of, exec_op, exec_step, complete_at}
-use Rattle.ring_core.specs.Effect.{made_by}
-use Rattle.ring_core.specs.Step.{new_owner, step, row, group_of, with_mark, handed_over, poll_at, poll_step, with_user}
-use Rattle.ring_core.specs.Refusal.{cause, lacks_handle}
-use Rattle.ring_core.specs.Closes.{made_at}
-use Rattle.ring_core.specs.Run.{replies, ledger_before, IsOwn}
-use Rattle.ring_core.proofs.Releasing.{released-beside}
+use Rattle.machine.specs.declared.request.Told.{Told}
+use Rattle.machine.specs.declared.request.Outcome.{Outcome}
+use Rattle.machine.specs.declared.ledger.Event.{Event}
+use Rattle.machine.specs.declared.ledger.Event.TheVariants.{Give, Feed, FeedMessage, End, Look, Close, Submit, Poll, Drop, Cancel, Turn}
+use Rattle.machine.specs.declared.ledger.Event.TheVariants.{Exec}
+use Rattle.machine.specs.declared.ledger.Event.TheVariants.{NewCanceller, NewHandle, CancelAll}
+use Rattle.machine.specs.declared.ledger.Refusal.{Refusal}
+use Rattle.machine.specs.declared.ledger.Refusal.TheVariants.{NoHandle}
+use Rattle.machine.specs.Lists.{passes}
+use Rattle.machine.specs.Ledger.{Ledger, Operation, Owner, Place, InQueue, InFlight, InDone, Reaped, Gone, Queued, Item, Op, empty}
+use Rattle.machine.specs.Ledger.{is_kept, user_holds, is_under_marked, group_under, members}
+use Rattle.machine.specs.Queue.{take_all, is_unheld}
+use Rattle.machine.specs.Turn.{effect_of, exec_op, exec_step, complete_at}
+use Rattle.machine.specs.Effect.{made_by}
+use Rattle.machine.specs.Step.{new_owner, step, row, group_of, with_mark, handed_over, poll_at, poll_step, with_user}
+use Rattle.machine.specs.Refusal.{cause, lacks_handle}
+use Rattle.machine.specs.Closes.{made_at}
+use Rattle.machine.specs.Run.{replies, ledger_before, IsOwn}
+use Rattle.machine.proofs.Releasing.{released-beside}
 use Rattle.run_laws.specs.Moments.{IsHanded, IsHandedBefore}
 use Rattle.run_laws.specs.Closes.{IsMadeBy, is_about_handle, UsedWhenReturned}
-use Rattle.ring_core.proofs.Numbers.{same-or-not, below-or-not}
-use Rattle.ring_core.proofs.Appended.{get-append-within}
-use Rattle.ring_core.proofs.Staying.{stays-take_all, stays-push, stays-push_each, stays-leave, stays-reap_each}
-use Rattle.ring_core.proofs.Users.{user-with_user-other}
-use Rattle.ring_core.proofs.Turning.{owner-before}
-use Rattle.ring_core.proofs.Making.{ops_from-left}
-use Rattle.ring_core.proofs.Stepping.{step-refused, step-row, held-there, names-held, refuses-none, submitted-held}
+use Rattle.machine.proofs.Numbers.{same-or-not, below-or-not}
+use Rattle.machine.proofs.Appended.{get-append-within}
+use Rattle.machine.proofs.Staying.{stays-take_all, stays-push, stays-push_each, stays-leave, stays-reap_each}
+use Rattle.machine.proofs.Users.{user-with_user-other}
+use Rattle.machine.proofs.Turning.{owner-before}
+use Rattle.machine.proofs.Making.{ops_from-left}
+use Rattle.machine.proofs.Stepping.{step-refused, step-row, held-there, names-held, refuses-none, submitted-held}
 use Rattle.run_laws.proofs.Replies.{reply-at, after-next}
 use Rattle.run_laws.proofs.Moments.{Placed, History, WasReaped}
 use Rattle.run_laws.proofs.Reached.{reached}

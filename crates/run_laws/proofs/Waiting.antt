@@ -2,23 +2,23 @@
 use Rattle.std.proofs.Common.{◌≡◌, ◌≢◌, ◌⊎◌, inl, inr, ℕ, zero, suc, ◌≤◌, true, List, [], ◌∷◌, take, Option, Some, None, option_map}
 use Rattle.std.proofs.Common.{slice_get, refl, sym, ◌∙◌, ap, subst, arith, true≢false}
 use Rattle.std.specs.Prelude.{is_some}
-use Rattle.ring_core.specs.declared.request.Told.{Told}
-use Rattle.ring_core.specs.declared.request.Told.TheVariants.{Count, Fail}
-use Rattle.ring_core.specs.declared.ledger.Event.{Event}
-use Rattle.ring_core.specs.Lists.{passes}
-use Rattle.ring_core.specs.Ledger.{Ledger, Operation, InFlight, Item, Op}
-use Rattle.ring_core.specs.Refusal.{waits}
-use Rattle.ring_core.specs.Run.{ledger_before, IsExecuted}
+use Rattle.machine.specs.declared.request.Told.{Told}
+use Rattle.machine.specs.declared.request.Told.TheVariants.{Count, Fail}
+use Rattle.machine.specs.declared.ledger.Event.{Event}
+use Rattle.machine.specs.Lists.{passes}
+use Rattle.machine.specs.Ledger.{Ledger, Operation, InFlight, Item, Op}
+use Rattle.machine.specs.Refusal.{waits}
+use Rattle.machine.specs.Run.{ledger_before, IsExecuted}
 use Rattle.run_laws.specs.Waits.{IsWaiting, IsBehind, WaitsBehind, Runs, StartsFree, BreaksWithLeader, StartsBehindLeader}
-use Rattle.ring_core.proofs.Occurring.{listed, same-cases}
-use Rattle.ring_core.proofs.Taking.{in_flight, flight_mark}
-use Rattle.ring_core.proofs.Listed.{flight-place, flying-there}
-use Rattle.ring_core.specs.Turn.{unless_waits}
-use Rattle.ring_core.proofs.Releasing.{unless-keeps}
-use Rattle.ring_core.proofs.Stepping.{executed-free}
-use Rattle.ring_core.proofs.Behind.{awaited, awaited_by, op_of, AreBehind, no-number, unless-awaits}
-use Rattle.ring_core.proofs.Parting.{Follows}
-use Rattle.ring_core.proofs.Following.{follows-ledger}
+use Rattle.machine.proofs.Occurring.{listed, same-cases}
+use Rattle.machine.proofs.Taking.{in_flight, flight_mark}
+use Rattle.machine.proofs.Listed.{flight-place, flying-there}
+use Rattle.machine.specs.Turn.{unless_waits}
+use Rattle.machine.proofs.Releasing.{unless-keeps}
+use Rattle.machine.proofs.Stepping.{executed-free}
+use Rattle.machine.proofs.Behind.{awaited, awaited_by, op_of, AreBehind, no-number, unless-awaits}
+use Rattle.machine.proofs.Parting.{Follows}
+use Rattle.machine.proofs.Following.{follows-ledger}
 use Rattle.run_laws.proofs.Executing.{lists-at, left-executed, exec-after, fail-other, count-other, exec-itself, executed-left}
 
 -- An operation that counts among items has a place there.

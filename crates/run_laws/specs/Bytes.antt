@@ -3,20 +3,20 @@ use Rattle.std.specs.Prelude.{ℕ, ◌≡◌, ◌⊎◌, true, false, List, [], 
 use Rattle.std.specs.Prelude.{Option, Some, slice_get}
 use Rattle.std.specs.List.{flat_map}
 use Rattle.rent_buf.specs.Held.{HeldBuf}
-use Rattle.ring_core.specs.declared.request.Call.TheVariants.{In, MessageIn, ToPipe, FromPipe}
-use Rattle.ring_core.specs.declared.request.Told.TheVariants.{Count}
-use Rattle.ring_core.specs.declared.request.Outcome.{Outcome}
-use Rattle.ring_core.specs.declared.request.Outcome.TheVariants.{From}
-use Rattle.ring_core.specs.declared.world.HandleKind.{HandleKind}
-use Rattle.ring_core.specs.declared.world.HandleKind.TheVariants.{Pipe}
-use Rattle.ring_core.specs.declared.world.HandleState.{HandleState}
-use Rattle.ring_core.specs.declared.ledger.Event.{Event}
-use Rattle.ring_core.specs.declared.ledger.Event.TheVariants.{Exec}
-use Rattle.ring_core.specs.World.{is_file}
-use Rattle.ring_core.specs.Request.{call_of, sent_of}
-use Rattle.ring_core.specs.Ledger.{empty}
-use Rattle.ring_core.specs.Turn.{effect_of}
-use Rattle.ring_core.specs.Run.{ledger_before, IsOwn}
+use Rattle.machine.specs.declared.request.Call.TheVariants.{In, MessageIn, ToPipe, FromPipe}
+use Rattle.machine.specs.declared.request.Told.TheVariants.{Count}
+use Rattle.machine.specs.declared.request.Outcome.{Outcome}
+use Rattle.machine.specs.declared.request.Outcome.TheVariants.{From}
+use Rattle.machine.specs.declared.world.HandleKind.{HandleKind}
+use Rattle.machine.specs.declared.world.HandleKind.TheVariants.{Pipe}
+use Rattle.machine.specs.declared.world.HandleState.{HandleState}
+use Rattle.machine.specs.declared.ledger.Event.{Event}
+use Rattle.machine.specs.declared.ledger.Event.TheVariants.{Exec}
+use Rattle.machine.specs.World.{is_file}
+use Rattle.machine.specs.Request.{call_of, sent_of}
+use Rattle.machine.specs.Ledger.{empty}
+use Rattle.machine.specs.Turn.{effect_of}
+use Rattle.machine.specs.Run.{ledger_before, IsOwn}
 use Rattle.run_laws.specs.Transfers.{Transfer, Fed, Taken, Sent, MessageFed, MessageTaken, MessageSent, moved_as}
 use Rattle.run_laws.specs.Transfers.{event_moves, transfers}
 use Rattle.run_laws.specs.Files.{pieces, HoldsLast}

@@ -1,17 +1,17 @@
 -- The laws of closes: what the replies to any events tell of the closes of handles, at every capacity. `headline` states them.
 use Rattle.std.specs.Prelude.{ℕ, ◌≡◌, ◌<◌, ◌≤◌, ◌⊎◌, Bool, true, false, ◌==◌, List, length, Some, None, slice_get}
 use Rattle.rent_buf.specs.Held.{HeldBuf}
-use Rattle.ring_core.specs.declared.request.Outcome.TheVariants.{Made}
-use Rattle.ring_core.specs.declared.ledger.Event.{Event}
-use Rattle.ring_core.specs.declared.ledger.Event.TheVariants.{Feed, FeedMessage, End, Look, Close, Submit}
-use Rattle.ring_core.specs.declared.ledger.Reply.{Reply}
-use Rattle.ring_core.specs.declared.ledger.Reply.TheVariants.{Handle, Released, Turned}
-use Rattle.ring_core.specs.Lists.{has_number}
-use Rattle.ring_core.specs.Request.{named}
-use Rattle.ring_core.specs.Queue.{is_unheld}
-use Rattle.ring_core.specs.Refusal.{cause}
-use Rattle.ring_core.specs.Closes.{close_count, ClosesOnce, MadeAlone}
-use Rattle.ring_core.specs.Run.{ledger_before, IsGiven, IsOwn}
+use Rattle.machine.specs.declared.request.Outcome.TheVariants.{Made}
+use Rattle.machine.specs.declared.ledger.Event.{Event}
+use Rattle.machine.specs.declared.ledger.Event.TheVariants.{Feed, FeedMessage, End, Look, Close, Submit}
+use Rattle.machine.specs.declared.ledger.Reply.{Reply}
+use Rattle.machine.specs.declared.ledger.Reply.TheVariants.{Handle, Released, Turned}
+use Rattle.machine.specs.Lists.{has_number}
+use Rattle.machine.specs.Request.{named}
+use Rattle.machine.specs.Queue.{is_unheld}
+use Rattle.machine.specs.Refusal.{cause}
+use Rattle.machine.specs.Closes.{close_count, ClosesOnce, MadeAlone}
+use Rattle.machine.specs.Run.{ledger_before, IsGiven, IsOwn}
 use Rattle.run_laws.specs.Moments.{IsReapedBefore, IsHandedBefore, IsDroppedBefore}
 
 -- The reply at i is that of a Turn, and names the close of h at a place of its second list.

@@ -4,16 +4,16 @@ use Rattle.std.specs.Prelude.{ℕ, ◌≡◌, ◌<◌, ◌↔◌, Bool, true, fa
 use Rattle.rent_buf.specs.Buffer.{Buffer}
 use Rattle.rent_buf.specs.Parts.{Parts}
 use Rattle.rent_buf.specs.Held.{HeldBuf}
-use Rattle.ring_core.specs.declared.request.Request.{Request}
-use Rattle.ring_core.specs.declared.ledger.Event.{Event}
-use Rattle.ring_core.specs.declared.ledger.Event.TheVariants.{Submit, NewHandle, CancelAll}
-use Rattle.ring_core.specs.declared.ledger.Refusal.TheVariants.{NoCanceller}
-use Rattle.ring_core.specs.declared.ledger.Reply.{Reply}
-use Rattle.ring_core.specs.declared.ledger.Reply.TheVariants.{CanceledAtOnce, Canceller, CancelHandle, Cancels, Refused}
-use Rattle.ring_core.specs.Lists.{has_number}
-use Rattle.ring_core.specs.Request.{held_of}
-use Rattle.ring_core.specs.Refusal.{cause}
-use Rattle.ring_core.specs.Run.{ledger_before, IsGiven}
+use Rattle.machine.specs.declared.request.Request.{Request}
+use Rattle.machine.specs.declared.ledger.Event.{Event}
+use Rattle.machine.specs.declared.ledger.Event.TheVariants.{Submit, NewHandle, CancelAll}
+use Rattle.machine.specs.declared.ledger.Refusal.TheVariants.{NoCanceller}
+use Rattle.machine.specs.declared.ledger.Reply.{Reply}
+use Rattle.machine.specs.declared.ledger.Reply.TheVariants.{CanceledAtOnce, Canceller, CancelHandle, Cancels, Refused}
+use Rattle.machine.specs.Lists.{has_number}
+use Rattle.machine.specs.Request.{held_of}
+use Rattle.machine.specs.Refusal.{cause}
+use Rattle.machine.specs.Run.{ledger_before, IsGiven}
 use Rattle.run_laws.specs.Moments.{IsHandedBefore, IsDroppedBefore}
 
 -- The event at i created a cancel handle of the canceller c.

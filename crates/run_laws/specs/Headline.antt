@@ -1,19 +1,19 @@
 -- The laws of whole runs: what the replies to any events keep, at every capacity. `headline` states them, and a session's run cites them.
 use Rattle.std.specs.Prelude.{ℕ, ◌≡◌, ◌<◌, ◌≤◌, ◌⊎◌, ◌↔◌, Bool, true, false, List, length, take, count_by, Some, slice_get}
 use Rattle.rent_buf.specs.Held.{HeldBuf}
-use Rattle.ring_core.specs.declared.request.Told.{Told}
-use Rattle.ring_core.specs.declared.request.Told.TheVariants.{Fail}
-use Rattle.ring_core.specs.declared.request.Outcome.{Outcome}
-use Rattle.ring_core.specs.declared.ledger.Event.{Event}
-use Rattle.ring_core.specs.declared.ledger.Event.TheVariants.{Poll}
-use Rattle.ring_core.specs.declared.ledger.Refusal.{Refusal}
-use Rattle.ring_core.specs.declared.ledger.Refusal.TheVariants.{NoOp}
-use Rattle.ring_core.specs.declared.ledger.Reply.{Reply}
-use Rattle.ring_core.specs.declared.ledger.Reply.TheVariants.{Submitted, Pending, Refused}
-use Rattle.ring_core.specs.declared.request.TheConstants.{CANCELED}
-use Rattle.ring_core.specs.Ledger.{Operation, Gone, Item, Op}
-use Rattle.ring_core.specs.Refusal.{cause}
-use Rattle.ring_core.specs.Run.{ledger_before, IsGiven, IsExecuted, IsReaped, IsOwn}
+use Rattle.machine.specs.declared.request.Told.{Told}
+use Rattle.machine.specs.declared.request.Told.TheVariants.{Fail}
+use Rattle.machine.specs.declared.request.Outcome.{Outcome}
+use Rattle.machine.specs.declared.ledger.Event.{Event}
+use Rattle.machine.specs.declared.ledger.Event.TheVariants.{Poll}
+use Rattle.machine.specs.declared.ledger.Refusal.{Refusal}
+use Rattle.machine.specs.declared.ledger.Refusal.TheVariants.{NoOp}
+use Rattle.machine.specs.declared.ledger.Reply.{Reply}
+use Rattle.machine.specs.declared.ledger.Reply.TheVariants.{Submitted, Pending, Refused}
+use Rattle.machine.specs.declared.request.TheConstants.{CANCELED}
+use Rattle.machine.specs.Ledger.{Operation, Gone, Item, Op}
+use Rattle.machine.specs.Refusal.{cause}
+use Rattle.machine.specs.Run.{ledger_before, IsGiven, IsExecuted, IsReaped, IsOwn}
 use Rattle.run_laws.specs.Moments.{IsPolled, IsReapedBefore, HandsOwn, IsHanded, IsDropped, IsAbout, IsGivenBefore, IsHandedBefore}
 use Rattle.run_laws.specs.Moments.{IsDroppedBefore, NamesReaped, IsCanceledBefore}
 

@@ -1,14 +1,14 @@
 -- What an event of a run and its reply are to an operation, and what came before an event. The laws of whole runs are said in these words.
 use Rattle.std.specs.Prelude.{ℕ, ◌≡◌, ◌<◌, ◌⊎◌, true, List, Option, Some, None, slice_get}
 use Rattle.rent_buf.specs.Held.{HeldBuf}
-use Rattle.ring_core.specs.declared.request.Outcome.{Outcome}
-use Rattle.ring_core.specs.declared.ledger.Event.{Event}
-use Rattle.ring_core.specs.declared.ledger.Event.TheVariants.{Poll, Drop, Cancel}
-use Rattle.ring_core.specs.declared.ledger.Reply.{Reply}
-use Rattle.ring_core.specs.declared.ledger.Reply.TheVariants.{Handed, Dropped, Asked, Cancels, Turned}
-use Rattle.ring_core.specs.Lists.{has_number}
-use Rattle.ring_core.specs.Refusal.{cause}
-use Rattle.ring_core.specs.Run.{ledger_before, IsGiven, IsReaped, IsOwn}
+use Rattle.machine.specs.declared.request.Outcome.{Outcome}
+use Rattle.machine.specs.declared.ledger.Event.{Event}
+use Rattle.machine.specs.declared.ledger.Event.TheVariants.{Poll, Drop, Cancel}
+use Rattle.machine.specs.declared.ledger.Reply.{Reply}
+use Rattle.machine.specs.declared.ledger.Reply.TheVariants.{Handed, Dropped, Asked, Cancels, Turned}
+use Rattle.machine.specs.Lists.{has_number}
+use Rattle.machine.specs.Refusal.{cause}
+use Rattle.machine.specs.Run.{ledger_before, IsGiven, IsReaped, IsOwn}
 
 -- The event at i is a Poll of n that isn't refused.
 pub record IsPolled (capacity : ℕ) (events : List Event) (n i : ℕ) : Type 0 where

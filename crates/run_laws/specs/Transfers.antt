@@ -1,19 +1,19 @@
 -- What moves at a handle in a run: the bytes and messages that come to it and leave it, in the order of the events. `Bytes` says the
 -- laws over them.
 use Rattle.std.specs.Prelude.{ℕ, ◌==◌, if◌then◌else◌, List, [], ◌∷◌, ◌++◌, take, Option, None, Some, slice_get}
-use Rattle.ring_core.specs.declared.request.Call.{Call}
-use Rattle.ring_core.specs.declared.request.Call.TheVariants.{In, Out, MessageIn, MessageOut, WriteAt, ToPipe, FromPipe}
-use Rattle.ring_core.specs.declared.request.Told.{Told}
-use Rattle.ring_core.specs.declared.request.Told.TheVariants.{Count, Fail}
-use Rattle.ring_core.specs.declared.world.HandleState.{HandleState}
-use Rattle.ring_core.specs.declared.ledger.Event.{Event}
-use Rattle.ring_core.specs.declared.ledger.Event.TheVariants.{Feed, FeedMessage, Exec}
-use Rattle.ring_core.specs.declared.ledger.Refusal.{Refusal}
-use Rattle.ring_core.specs.World.{input_at, messages_at}
-use Rattle.ring_core.specs.Request.{call_of, sent_of}
-use Rattle.ring_core.specs.Ledger.{Ledger, Operation, Item, Op}
-use Rattle.ring_core.specs.Refusal.{cause}
-use Rattle.ring_core.specs.Step.{step}
+use Rattle.machine.specs.declared.request.Call.{Call}
+use Rattle.machine.specs.declared.request.Call.TheVariants.{In, Out, MessageIn, MessageOut, WriteAt, ToPipe, FromPipe}
+use Rattle.machine.specs.declared.request.Told.{Told}
+use Rattle.machine.specs.declared.request.Told.TheVariants.{Count, Fail}
+use Rattle.machine.specs.declared.world.HandleState.{HandleState}
+use Rattle.machine.specs.declared.ledger.Event.{Event}
+use Rattle.machine.specs.declared.ledger.Event.TheVariants.{Feed, FeedMessage, Exec}
+use Rattle.machine.specs.declared.ledger.Refusal.{Refusal}
+use Rattle.machine.specs.World.{input_at, messages_at}
+use Rattle.machine.specs.Request.{call_of, sent_of}
+use Rattle.machine.specs.Ledger.{Ledger, Operation, Item, Op}
+use Rattle.machine.specs.Refusal.{cause}
+use Rattle.machine.specs.Step.{step}
 
 -- A transfer at a handle. Bytes are fed to it, leave its input, are sent to it, or are written to it from a position on. A message is fed
 -- to it with its address, leaves it, or is sent by it to an address, where it has one.

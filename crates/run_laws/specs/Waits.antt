@@ -1,13 +1,13 @@
 -- The laws of linked submissions: what an operation waits for, and what becomes of it, at every capacity. `headline` states them.
 use Rattle.std.specs.Prelude.{ℕ, zero, suc, ◌≡◌, ◌<◌, ◌≤◌, ◌⊎◌, ◌↔◌, true, List, ◌++◌, length, Some, None, slice_get}
-use Rattle.ring_core.specs.declared.request.Told.{Told}
-use Rattle.ring_core.specs.declared.request.Told.TheVariants.{Count, Fail}
-use Rattle.ring_core.specs.declared.ledger.Event.{Event}
-use Rattle.ring_core.specs.declared.ledger.Event.TheVariants.{Exec}
-use Rattle.ring_core.specs.Lists.{passes}
-use Rattle.ring_core.specs.Ledger.{Ledger, Operation, InFlight, Req, Op}
-use Rattle.ring_core.specs.Refusal.{cause}
-use Rattle.ring_core.specs.Run.{ledger_before, IsExecuted}
+use Rattle.machine.specs.declared.request.Told.{Told}
+use Rattle.machine.specs.declared.request.Told.TheVariants.{Count, Fail}
+use Rattle.machine.specs.declared.ledger.Event.{Event}
+use Rattle.machine.specs.declared.ledger.Event.TheVariants.{Exec}
+use Rattle.machine.specs.Lists.{passes}
+use Rattle.machine.specs.Ledger.{Ledger, Operation, InFlight, Req, Op}
+use Rattle.machine.specs.Refusal.{cause}
+use Rattle.machine.specs.Run.{ledger_before, IsExecuted}
 use Rattle.run_laws.specs.Transfers.{Transfer, event_moves}
 use Rattle.run_laws.specs.Bytes.{transfers_before}
 

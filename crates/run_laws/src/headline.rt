@@ -1,8 +1,8 @@
 //! The laws of whole runs of the machine.
 ghost use Rattle.std.specs.Prelude.{ℕ, List};
-ghost use Rattle.ring_core.specs.declared.ledger.Event.{Event};
-ghost use Rattle.ring_core.specs.Ledger.{empty};
-ghost use Rattle.ring_core.specs.Run.{replies};
+ghost use Rattle.machine.specs.declared.ledger.Event.{Event};
+ghost use Rattle.machine.specs.Ledger.{empty};
+ghost use Rattle.machine.specs.Run.{replies};
 ghost use Rattle.run_laws.specs.Headline.{OneReplyEach, RefusedExactly, PendingUntilReaped, ReapedOrNot, HandsBackOwn, HandedOnce};
 ghost use Rattle.run_laws.specs.Headline.{DroppedOnce, RefusedWhereGone, FirstPollHands, ReapNames, KeptUntilReaped};
 ghost use Rattle.run_laws.specs.Headline.{CanceledWhereAsked, BreaksByFailure, GivenOnce, ExecutedOnce, ReapedOnce, OneOwn, GivenInOrder};

@@ -4,16 +4,16 @@ use Rattle.std.proofs.Common.{subst, slice_get, unwrap_or}
 use Rattle.std.proofs.lemmas.List.{length-map, map-append}
 use Rattle.std.proofs.lemmas.Option.{slice_get_within, slice_get_cases}
 use Rattle.rent_buf.specs.Buf.{built}
-use Rattle.ring_core.specs.Lists.{amended}
-use Rattle.ring_core.specs.Ledger.{Ledger}
-use Rattle.ring_core.specs.Step.{step, group_of, cancel_all_step}
-use Rattle.ring_core.specs.declared.ledger.Event.TheVariants.{NewCanceller, NewHandle, CancelAll}
-use Rattle.ring_core.specs.declared.ledger.Reply.TheVariants.{Canceller, CancelHandle, Cancels}
-use Rattle.ring_core.proofs.Amended.{length-amended}
-use Rattle.ring_core.proofs.Grouped.{Grouped, grouped-ledger, present-there}
-use Rattle.ring_core.proofs.Grouping.{op_groups, with_canceller, with_handle_of, renewed, groups-cancel_all}
-use Rattle.ring_core.proofs.Staying.{Groups, groups_of}
-use Rattle.ring_core.proofs.Stepping.{step-row}
+use Rattle.machine.specs.Lists.{amended}
+use Rattle.machine.specs.Ledger.{Ledger}
+use Rattle.machine.specs.Step.{step, group_of, cancel_all_step}
+use Rattle.machine.specs.declared.ledger.Event.TheVariants.{NewCanceller, NewHandle, CancelAll}
+use Rattle.machine.specs.declared.ledger.Reply.TheVariants.{Canceller, CancelHandle, Cancels}
+use Rattle.machine.proofs.Amended.{length-amended}
+use Rattle.machine.proofs.Grouped.{Grouped, grouped-ledger, present-there}
+use Rattle.machine.proofs.Grouping.{op_groups, with_canceller, with_handle_of, renewed, groups-cancel_all}
+use Rattle.machine.proofs.Staying.{Groups, groups_of}
+use Rattle.machine.proofs.Stepping.{step-row}
 use Rattle.driver_core.specs.Answers.{CancellerFor, HandleFor, CancelsFor}
 use Rattle.uring_driver.specs.Op.{KeepsTokens}
 use Rattle.uring_driver.specs.Stands.{Stands}

@@ -3,8 +3,8 @@ use Rattle.std.proofs.Common.{◌≤◌, ◌*◌, inl, inr, refl, ℕ, List, [],
 use Rattle.std.proofs.Common.{◌≡◌, None, arith, subst, sym}
 use Rattle.std.specs.Prelude.{IsSome}
 use Rattle.std.specs.List.{AllZip}
-use Rattle.ring_core.specs.declared.ledger.Event.{Event}
-use Rattle.ring_core.specs.Ledger.{Ledger, empty}
+use Rattle.machine.specs.declared.ledger.Event.{Event}
+use Rattle.machine.specs.Ledger.{Ledger, empty}
 use Rattle.session_core.specs.declared.command.Command.{Command}
 use Rattle.session_core.specs.declared.input.TheConstants.{MOST_INPUT}
 use Rattle.session_core.specs.declared.top.Kept.{Kept}

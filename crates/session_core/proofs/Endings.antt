@@ -1,8 +1,8 @@
 -- What a command has done, by its words and its status.
 use Rattle.std.proofs.Common.{◌≡◌, ◌*◌, ◌⊎◌, inl, inr, Bool, IsTrue, ℕ, List, Option, Some, sym, subst, arith}
 use Rattle.std.specs.Prelude.{Result, Ok, Err}
-use Rattle.ring_core.specs.declared.ledger.Event.{Event}
-use Rattle.ring_core.specs.Ledger.{Ledger}
+use Rattle.machine.specs.declared.ledger.Event.{Event}
+use Rattle.machine.specs.Ledger.{Ledger}
 use Rattle.session_core.specs.declared.command.Command.{Command}
 use Rattle.session_core.specs.declared.command.Command.TheVariants.{Run, Ready, Generate, Trace, Wake, Copy, Unframe, Relay, Tasks}
 use Rattle.session_core.specs.declared.input.NoEvents.{NoEvents}

@@ -1,9 +1,9 @@
 -- The events of a seed, round by round.
 use Rattle.std.proofs.Common.{◌≡◌, ◌∙◌, ℕ, suc, ◌+◌, ◌%◌, List, [], ◌∷◌, ◌++◌, sym, ap, append_assoc}
 use Rattle.std.proofs.lemmas.List.{append-nil}
-use Rattle.ring_core.specs.declared.ledger.Event.{Event}
-use Rattle.ring_core.specs.declared.ledger.Event.TheVariants.{Give}
-use Rattle.ring_core.specs.declared.world.HandleKind.TheVariants.{Stream}
+use Rattle.machine.specs.declared.ledger.Event.{Event}
+use Rattle.machine.specs.declared.ledger.Event.TheVariants.{Give}
+use Rattle.machine.specs.declared.world.HandleKind.TheVariants.{Stream}
 use Rattle.session_core.specs.Generated.{drawn, generated_events, next_state, round_events, rounds_from}
 
 -- A handle, then all rounds.

@@ -2,16 +2,16 @@
 use Rattle.std.proofs.Common.{◌≡◌, ℕ, Bool, true, false, map, Option, None, Some, refl, sym, ◌∙◌, ap}
 use Rattle.rent_buf.specs.Buffer.{Buffer}
 use Rattle.rent_buf.specs.Parts.{Parts}
-use Rattle.ring_core.specs.declared.request.Request.{Request}
-use Rattle.ring_core.specs.declared.ledger.Event.{Event}
-use Rattle.ring_core.specs.declared.ledger.Event.TheVariants.{Submit}
-use Rattle.ring_core.specs.declared.ledger.Refusal.{Refusal}
-use Rattle.ring_core.specs.Ledger.{Ledger, is_under_marked, group_under}
-use Rattle.ring_core.specs.Refusal.{cause}
-use Rattle.ring_core.specs.Step.{step, submit_if}
-use Rattle.ring_core.proofs.Staying.{Groups, groups_of}
-use Rattle.ring_core.proofs.Stepping.{step-refused, step-row}
-use Rattle.ring_core.proofs.Grouping.{may_group, groups-row, groups-submit}
+use Rattle.machine.specs.declared.request.Request.{Request}
+use Rattle.machine.specs.declared.ledger.Event.{Event}
+use Rattle.machine.specs.declared.ledger.Event.TheVariants.{Submit}
+use Rattle.machine.specs.declared.ledger.Refusal.{Refusal}
+use Rattle.machine.specs.Ledger.{Ledger, is_under_marked, group_under}
+use Rattle.machine.specs.Refusal.{cause}
+use Rattle.machine.specs.Step.{step, submit_if}
+use Rattle.machine.proofs.Staying.{Groups, groups_of}
+use Rattle.machine.proofs.Stepping.{step-refused, step-row}
+use Rattle.machine.proofs.Grouping.{may_group, groups-row, groups-submit}
 use Rattle.driver_core.specs.declared.tokens.Tokens.{Tokens}
 use Rattle.driver_core.specs.Tokens.{KeepsGroups}
 use Rattle.session_core.specs.Session.{HasGroups}

@@ -4,12 +4,12 @@ use Rattle.std.specs.Prelude.{Result, Ok, Err, OnErr, Option, Some, None}
 use Rattle.rent_buf.specs.Buf.{built}
 use Rattle.rent_buf.specs.declared.plain.Buf.{Buf}
 use Rattle.ring_core.specs.Ring.{RingView}
-use Rattle.ring_core.specs.Ledger.{Ledger}
-use Rattle.ring_core.specs.declared.ledger.Event.TheVariants.{Turn, Exec}
-use Rattle.ring_core.specs.declared.request.Told.{Told}
+use Rattle.machine.specs.Ledger.{Ledger}
+use Rattle.machine.specs.declared.ledger.Event.TheVariants.{Turn, Exec}
+use Rattle.machine.specs.declared.request.Told.{Told}
 use Rattle.ring_core.specs.declared.mem_ring.ExecRefusal.{ExecRefusal}
-use Rattle.ring_core.specs.Step.{step}
-use Rattle.ring_core.proofs.Staying.{groups_of}
+use Rattle.machine.specs.Step.{step}
+use Rattle.machine.proofs.Staying.{groups_of}
 use Rattle.uring_driver.specs.declared.uring.IoUringDriver.{IoUringDriver}
 use Rattle.driver_core.specs.declared.op.Executed.{Executed}
 use Rattle.driver_core.specs.declared.op.Executed.TheVariants.{Op as ExecutedNumber, Close as ExecutedHandle}

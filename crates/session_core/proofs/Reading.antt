@@ -2,7 +2,7 @@
 use Rattle.std.proofs.Common.{◌≡◌, ◌≤◌, ℕ, zero, suc, ◌+◌, Bool, IsTrue, List, [], ◌∷◌, ◌++◌, length, take, drop, refl, sym, ◌∙◌, ap, subst}
 use Rattle.std.proofs.Common.{length-append, arith}
 use Rattle.std.specs.List.{AllZip}
-use Rattle.ring_core.specs.declared.ledger.Event.{Event}
+use Rattle.machine.specs.declared.ledger.Event.{Event}
 use Rattle.session_core.specs.declared.input.NoEvents.{NoEvents}
 use Rattle.event_text.specs.TextLines.{lines, IsFirstWrongFor}
 use Rattle.session_core.specs.DriverKind.{DriverKind, StandsOn, completion, readiness}

@@ -4,14 +4,14 @@ use Rattle.std.proofs.Common.{[], ◌∷◌, length, Option, None, Some, refl, s
 use Rattle.std.specs.Prelude.{slice_get}
 use Rattle.rent_buf.specs.Buf.{built}
 use Rattle.rent_buf.specs.declared.plain.Buf.{Buf}
-use Rattle.ring_core.specs.Lists.{passes}
+use Rattle.machine.specs.Lists.{passes}
 use Rattle.ring_core.specs.Ring.{RingView}
-use Rattle.ring_core.specs.Ledger.{Ledger, Operation, Place, InQueue, InFlight, InDone, Reaped}
-use Rattle.ring_core.specs.Ledger.{Gone, is_live, is_owned, user_holds}
-use Rattle.ring_core.specs.Refusal.{cause, refused_if, lacks_handle}
-use Rattle.ring_core.specs.declared.ledger.Event.TheVariants.{Feed, FeedMessage, End, Look, Close, Poll, Drop, Cancel, NewHandle, CancelAll}
-use Rattle.ring_core.specs.World.{refuses_feed, refuses_message, refuses_end}
-use Rattle.ring_core.specs.declared.ledger.Refusal.TheVariants.{NoOp, NoCanceller, NoHandle, BadHandleEvent}
+use Rattle.machine.specs.Ledger.{Ledger, Operation, Place, InQueue, InFlight, InDone, Reaped}
+use Rattle.machine.specs.Ledger.{Gone, is_live, is_owned, user_holds}
+use Rattle.machine.specs.Refusal.{cause, refused_if, lacks_handle}
+use Rattle.machine.specs.declared.ledger.Event.TheVariants.{Feed, FeedMessage, End, Look, Close, Poll, Drop, Cancel, NewHandle, CancelAll}
+use Rattle.machine.specs.World.{refuses_feed, refuses_message, refuses_end}
+use Rattle.machine.specs.declared.ledger.Refusal.TheVariants.{NoOp, NoCanceller, NoHandle, BadHandleEvent}
 use Rattle.driver_core.specs.declared.op.Op.{Op}
 use Rattle.uring_driver.specs.declared.uring.IoUringDriver.{IoUringDriver}
 use Rattle.uring_driver.specs.Uring.{holds_handle, holds_all}

@@ -3,9 +3,9 @@ use Rattle.std.proofs.Common.{◌≡◌, ℕ, zero, suc, ◌<◌, ◌≤◌, Boo
 use Rattle.std.proofs.Common.{◌+◌, ◌-◌, ◌++◌, ◌∙◌, add-one, ap, append-nil, arith}
 use Rattle.std.specs.Prelude.{MatchOption, Option, Some, None}
 use Rattle.std.specs.List.{AllZip}
-use Rattle.ring_core.specs.declared.ledger.Event.{Event}
-use Rattle.ring_core.specs.declared.ledger.Reply.{Reply}
-use Rattle.ring_core.specs.Ledger.{Ledger}
+use Rattle.machine.specs.declared.ledger.Event.{Event}
+use Rattle.machine.specs.declared.ledger.Reply.{Reply}
+use Rattle.machine.specs.Ledger.{Ledger}
 use Rattle.event_text.specs.TextLines.{AreEventsFor, IsWrong, lines}
 use Rattle.event_text.proofs.TextEvents.{stands_once}
 use Rattle.event_text.proofs.TextLinesRead.{IsFirstEvent, right-first}

@@ -2,12 +2,12 @@
 use Rattle.std.proofs.Common.{◌≡◌, ◌≤◌, ℕ, zero, suc, List, [], ◌∷◌, ◌++◌, length, take, drop, Some, refl, sym, ◌∙◌, ap}
 use Rattle.std.proofs.Common.{append_assoc, subst, arith}
 use Rattle.std.specs.Prelude.{slice_get}
-use Rattle.ring_core.specs.declared.ledger.Event.{Event}
-use Rattle.ring_core.specs.declared.ledger.Reply.{Reply}
-use Rattle.ring_core.specs.Ledger.{Ledger, empty}
-use Rattle.ring_core.specs.Step.{step}
-use Rattle.ring_core.specs.Run.{after, replies}
-use Rattle.ring_core.proofs.Keeping.{drop-suc}
+use Rattle.machine.specs.declared.ledger.Event.{Event}
+use Rattle.machine.specs.declared.ledger.Reply.{Reply}
+use Rattle.machine.specs.Ledger.{Ledger, empty}
+use Rattle.machine.specs.Step.{step}
+use Rattle.machine.specs.Run.{after, replies}
+use Rattle.machine.proofs.Appended.{drop-suc}
 use Rattle.run_laws.proofs.Replies.{after-next}
 
 -- The ledger after one event more.

@@ -11,19 +11,19 @@ use Rattle.handle_core.specs.declared.table.Holders.{Holders}
 use Rattle.rent_buf.specs.Buf.{built}
 use Rattle.rent_buf.specs.Parts.{Parts}
 use Rattle.rent_buf.specs.declared.plain.Buf.{Buf}
-use Rattle.ring_core.specs.Closes.{AreKnown}
+use Rattle.machine.specs.Closes.{AreKnown}
 use Rattle.ring_core.specs.Entry.{target}
-use Rattle.ring_core.specs.Ledger.{Ledger, user_holds}
-use Rattle.ring_core.specs.Request.{named, makes}
-use Rattle.ring_core.specs.Effect.{made_by}
-use Rattle.ring_core.specs.declared.request.Request.{Request}
+use Rattle.machine.specs.Ledger.{Ledger, user_holds}
+use Rattle.machine.specs.Request.{named, makes}
+use Rattle.machine.specs.Effect.{made_by}
+use Rattle.machine.specs.declared.request.Request.{Request}
 use Rattle.ring_core.specs.Ring.{RingView}
-use Rattle.ring_core.specs.declared.entry.Completion.{Completion}
+use Rattle.machine.specs.declared.completion.Completion.{Completion}
 use Rattle.ring_core.specs.declared.entry.Target.{Target}
 use Rattle.ring_core.specs.declared.entry.Target.TheVariants.{Slot as Keyed, Handle, Reserved}
-use Rattle.ring_core.proofs.Lawful.{lawful-ledger}
-use Rattle.ring_core.proofs.Numbers.{same-or-not}
-use Rattle.ring_core.proofs.Stepping.{held-there}
+use Rattle.machine.proofs.Lawful.{lawful-ledger}
+use Rattle.machine.proofs.Numbers.{same-or-not}
+use Rattle.machine.proofs.Stepping.{held-there}
 use Rattle.driver_core.specs.Holds.{without_ops, settled, dropped_in, held_in, is_dropped}
 use Rattle.driver_core.specs.declared.op.Done.{Done}
 use Rattle.driver_core.specs.declared.slot.Slot.{Slot}

@@ -6,17 +6,17 @@ use Rattle.rent_buf.specs.Buffer.{Buffer}
 use Rattle.rent_buf.specs.Parts.{Parts}
 use Rattle.rent_buf.specs.Buf.{built}
 use Rattle.rent_buf.specs.declared.plain.Buf.{Buf}
-use Rattle.ring_core.specs.Lists.{amended}
+use Rattle.machine.specs.Lists.{amended}
 use Rattle.ring_core.specs.Ring.{RingView}
-use Rattle.ring_core.specs.Ledger.{Ledger}
-use Rattle.ring_core.specs.Request.{named, makes, plain_request}
-use Rattle.ring_core.specs.Refusal.{cause}
-use Rattle.ring_core.proofs.Staying.{groups_of}
-use Rattle.ring_core.proofs.Grouping.{may_group}
-use Rattle.ring_core.specs.declared.ledger.Event.{Event}
-use Rattle.ring_core.specs.declared.ledger.Event.TheVariants.{Look, Submit, Exec}
-use Rattle.ring_core.specs.declared.request.Told.{Told}
-use Rattle.ring_core.specs.declared.world.Look.{Look as Shown}
+use Rattle.machine.specs.Ledger.{Ledger}
+use Rattle.machine.specs.Request.{named, makes, plain_request}
+use Rattle.machine.specs.Refusal.{cause}
+use Rattle.machine.proofs.Staying.{groups_of}
+use Rattle.machine.proofs.Grouping.{may_group}
+use Rattle.machine.specs.declared.ledger.Event.{Event}
+use Rattle.machine.specs.declared.ledger.Event.TheVariants.{Look, Submit, Exec}
+use Rattle.machine.specs.declared.request.Told.{Told}
+use Rattle.machine.specs.declared.world.Look.{Look as Shown}
 use Rattle.uring_driver.specs.Handles.{LooksFor}
 use Rattle.ring_core.specs.declared.mem_ring.ExecRefusal.{ExecRefusal}
 use Rattle.rent_buf.specs.declared.fault.OutOfMemory.{OutOfMemory as NoMemory}
@@ -24,11 +24,11 @@ use Rattle.driver_core.specs.declared.op.Executed.{Executed}
 use Rattle.driver_core.specs.declared.op.Executed.TheVariants.{Op as ExecutedNumber, Close as ExecutedHandle}
 use Rattle.uring_driver.specs.Executed.{ExecutesFor}
 use Rattle.session_core.specs.Executed.{reply_to, AnswersRefusal}
-use Rattle.ring_core.specs.declared.ledger.Refusal.{Refusal}
-use Rattle.ring_core.specs.declared.ledger.Refusal.TheVariants.{NotFlying, Waiting, BadOutcome}
-use Rattle.ring_core.specs.declared.ledger.Reply.{Reply}
-use Rattle.ring_core.specs.declared.ledger.Reply.TheVariants.{Refused, ExecutedOp, ExecutedClose}
-use Rattle.ring_core.proofs.Amended.{length-amended}
+use Rattle.machine.specs.declared.ledger.Refusal.{Refusal}
+use Rattle.machine.specs.declared.ledger.Refusal.TheVariants.{NotFlying, Waiting, BadOutcome}
+use Rattle.machine.specs.declared.ledger.Reply.{Reply}
+use Rattle.machine.specs.declared.ledger.Reply.TheVariants.{Refused, ExecutedOp, ExecutedClose}
+use Rattle.machine.proofs.Amended.{length-amended}
 use Rattle.run_laws.proofs.Replies.{step-refused}
 use Rattle.driver_core.specs.declared.op.Op.{Op}
 use Rattle.driver_core.specs.Answers.{IsUnder}
@@ -36,7 +36,7 @@ use Rattle.uring_driver.specs.declared.uring.IoUringDriver.{IoUringDriver}
 use Rattle.uring_driver.specs.Uring.{due_in, given_by}
 use Rattle.uring_driver.specs.Op.{number_of, KeepsTokens, DropsToken, ops_in}
 use Rattle.driver_core.specs.Slot.{number_at}
-use Rattle.ring_core.specs.Step.{step, look_reply}
+use Rattle.machine.specs.Step.{step, look_reply}
 use Rattle.uring_driver.specs.Submitted.{AddsTo, WhyRefused, SubmitRefused}
 use Rattle.uring_driver.specs.Turned.{TurnsFor}
 use Rattle.driver_core.specs.declared.op.Turned.{Turned}
@@ -44,7 +44,7 @@ use Rattle.driver_core.specs.declared.op.Stop.{Stop}
 use Rattle.driver_core.specs.declared.op.Stop.TheVariants.{RingFault, Busy, BadCompletion, Os, OutOfMemory}
 use Rattle.driver_core.specs.declared.op.SubmitError.{SubmitError}
 use Rattle.driver_core.specs.declared.op.SubmitFault.{SubmitFault}
-use Rattle.ring_core.specs.declared.request.Request.{Request}
+use Rattle.machine.specs.declared.request.Request.{Request}
 use Rattle.uring_driver.specs.Stands.{Stands, Answers}
 use Rattle.session_core.specs.declared.session.Session.{Session}
 use Rattle.driver_core.specs.Tokens.{token_at, by_number, KeepsGroups}

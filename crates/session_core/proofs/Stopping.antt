@@ -1,8 +1,8 @@
 -- Which line a command names.
 use Rattle.std.proofs.Common.{◌≡◌, inl, inr, ℕ, Bool, IsTrue, List, Option, Some, None, sym, subst, arith}
 use Rattle.std.specs.Prelude.{Result, Ok, Err}
-use Rattle.ring_core.specs.declared.ledger.Event.{Event}
-use Rattle.ring_core.specs.Ledger.{Ledger, empty}
+use Rattle.machine.specs.declared.ledger.Event.{Event}
+use Rattle.machine.specs.Ledger.{Ledger, empty}
 use Rattle.rent_io.specs.Call.{Reading, Writing}
 use Rattle.session_core.specs.declared.command.Command.{Command}
 use Rattle.session_core.specs.declared.command.Command.TheVariants.{Run, Ready, Generate, Trace, Wake, Copy, Unframe, Relay, Tasks}

@@ -4,14 +4,14 @@ use Rattle.std.specs.Prelude.{nat_le}
 use Rattle.std.proofs.Math.Bool.{and-false}
 use Rattle.rent_buf.specs.Buffer.{Buffer}
 use Rattle.rent_buf.specs.Parts.{Parts}
-use Rattle.ring_core.specs.Ledger.{Ledger, live_ops, is_marked, is_under_marked}
-use Rattle.ring_core.specs.Lists.{passes}
-use Rattle.ring_core.specs.Request.{named}
-use Rattle.ring_core.specs.declared.ledger.TheConstants.{MOST_LIVE}
-use Rattle.ring_core.specs.declared.ledger.Event.TheVariants.{Submit}
-use Rattle.ring_core.specs.declared.ledger.Refusal.TheVariants.{NoCanceller, NoHandle, Full}
-use Rattle.ring_core.specs.declared.request.Request.{Request}
-use Rattle.ring_core.specs.Refusal.{cause, refused_if, has_no_canceller, lacks_handle}
+use Rattle.machine.specs.Ledger.{Ledger, live_ops, is_marked, is_under_marked}
+use Rattle.machine.specs.Lists.{passes}
+use Rattle.machine.specs.Request.{named}
+use Rattle.machine.specs.declared.ledger.TheConstants.{MOST_LIVE}
+use Rattle.machine.specs.declared.ledger.Event.TheVariants.{Submit}
+use Rattle.machine.specs.declared.ledger.Refusal.TheVariants.{NoCanceller, NoHandle, Full}
+use Rattle.machine.specs.declared.request.Request.{Request}
+use Rattle.machine.specs.Refusal.{cause, refused_if, has_no_canceller, lacks_handle}
 use Rattle.driver_core.specs.Answers.{IsUnder}
 use Rattle.driver_core.proofs.Grouping.{under-known}
 use Rattle.uring_driver.specs.Uring.{holds_all, live_slots}

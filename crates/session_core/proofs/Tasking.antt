@@ -17,7 +17,7 @@ use Rattle.session_core.specs.Top.{WrotePrefix}
 use Rattle.session_core.specs.declared.top.Stop.{Stop}
 use Rattle.session_core.specs.declared.top.Stop.TheVariants.{Wrong}
 use Rattle.task_run.specs.Tasks.{OutputFor}
-use Rattle.ring_core.specs.Counts.{Rose}
+use Rattle.machine.specs.Counts.{Rose}
 use Rattle.session_core.specs.Writes.{RefusesFor, Wrote}
 use Rattle.session_core.proofs.TaskWords.{tasks-are}
 
@@ -99,6 +99,7 @@ tasks_done ts tk source sink text out all output wrote flushed = record {
   flushed = flushed;
 }
 
+-- A text with a bad line is answered by that line's number.
 pub tasks_bad : (ts tk : Bool) (source : Reading) (sink : Writing) (text out : List ℕ) (number : ℕ)
     → (IsTrue ts → IsAll source.left source.rest text) → OutputFor text (Some number) out
     → Wrote tk out sink.taken sink.now sink.faults sink.later → IsTrue sink.flushed → TasksFor ts tk source sink BadLine

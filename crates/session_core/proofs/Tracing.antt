@@ -1,8 +1,8 @@
 -- The texts of events, one by one.
 use Rattle.std.proofs.Common.{◌≡◌, ◌≤◌, ◌∙◌, ℕ, suc, List, ◌++◌, drop, length, Some, sym, ap, append-nil, append_assoc}
 use Rattle.std.specs.Prelude.{slice_get}
-use Rattle.ring_core.specs.declared.ledger.Event.{Event}
-use Rattle.ring_core.proofs.Keeping.{drop-suc}
+use Rattle.machine.specs.declared.ledger.Event.{Event}
+use Rattle.machine.proofs.Appended.{drop-suc}
 use Rattle.event_text.specs.TextEvent.{event_text}
 use Rattle.session_core.specs.Top.{ended}
 use Rattle.session_core.specs.Trace.{event_lines}

@@ -2,7 +2,7 @@
 use Rattle.std.proofs.Common.{◌≡◌, ◌<◌, ◌≤◌, ℕ, zero, suc, ◌+◌, Bool, IsTrue, List, [], ◌∷◌, ◌++◌, length, take, get_or, refl, sym, ◌∙◌, ap}
 use Rattle.std.proofs.Common.{subst, add-one, append-nil, append_assoc, arith}
 use Rattle.std.specs.Prelude.{Result, Ok, Err}
-use Rattle.ring_core.specs.declared.ledger.Reply.{Reply}
+use Rattle.machine.specs.declared.ledger.Reply.{Reply}
 use Rattle.rent_io.specs.declared.source.Failed.{Failed}
 use Rattle.rent_io.proofs.Runs.{rose_later}
 use Rattle.session_core.specs.declared.output.Unwritten.{Unwritten}

@@ -1,6 +1,6 @@
 -- When a command can only be done, or run out of memory. Cited by `top`.
 use Rattle.std.specs.Prelude.{ℕ, ◌≡◌, ◌≤◌, ◌⊎◌, Bool, IsTrue, List, length}
-use Rattle.ring_core.specs.Counts.{Rose}
+use Rattle.machine.specs.Counts.{Rose}
 use Rattle.rent_io.specs.Call.{Reading, Writing}
 use Rattle.event_text.specs.TextLines.{lines, AreEventsFor}
 use Rattle.session_core.specs.declared.input.TheConstants.{MOST_INPUT}

@@ -1,10 +1,10 @@
 -- The drivers over which commands run events: which lines they take, what they reply, and when a session over one of them is kept.
 use Rattle.std.specs.Prelude.{ℕ, ◌≡◌, Bool, true, false, List, Option, Some}
-use Rattle.ring_core.specs.declared.ledger.Event.{Event}
-use Rattle.ring_core.specs.declared.ledger.Reply.{Reply}
-use Rattle.ring_core.specs.Ledger.{Ledger}
-use Rattle.ring_core.specs.Step.{step}
-use Rattle.ring_core.specs.Run.{after, replies}
+use Rattle.machine.specs.declared.ledger.Event.{Event}
+use Rattle.machine.specs.declared.ledger.Reply.{Reply}
+use Rattle.machine.specs.Ledger.{Ledger}
+use Rattle.machine.specs.Step.{step}
+use Rattle.machine.specs.Run.{after, replies}
 use Rattle.ready_driver.specs.Readiness.{IsDriven}
 use Rattle.ready_driver.specs.Spelled.{spelled, spelled_reply, spelled_replies, spelled_after, ledger_behind}
 use Rattle.ready_run.specs.ReadySession.{ReadyStands}

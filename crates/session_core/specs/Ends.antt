@@ -2,9 +2,9 @@
 -- functions that it calls.
 use Rattle.std.specs.Prelude.{ℕ, ◌≡◌, ◌*◌, ◌⊎◌, Bool, IsTrue, List, ◌++◌}
 use Rattle.std.specs.Prelude.{Option, Some, Result, Ok, Err, ⊤}
-use Rattle.ring_core.specs.declared.ledger.Event.{Event}
-use Rattle.ring_core.specs.Counts.{Rose}
-use Rattle.ring_core.specs.Ledger.{Ledger, empty}
+use Rattle.machine.specs.declared.ledger.Event.{Event}
+use Rattle.machine.specs.Counts.{Rose}
+use Rattle.machine.specs.Ledger.{Ledger, empty}
 pub use Rattle.rent_io.specs.Call.{Reading, Writing, reading, writing}
 use Rattle.copy_run.specs.Ending.{CopyEnds}
 use Rattle.copy_run.specs.declared.copying.Ending.{Ending}

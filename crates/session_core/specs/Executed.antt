@@ -1,9 +1,9 @@
 -- What a session replies to an execution.
 use Rattle.std.specs.Prelude.{◌≡◌, Result, Ok, IsErr}
 use Rattle.rent_buf.specs.declared.fault.OutOfMemory.{OutOfMemory as NoMemory}
-use Rattle.ring_core.specs.declared.ledger.Reply.{Reply}
-use Rattle.ring_core.specs.declared.ledger.Reply.TheVariants.{ExecutedOp, ExecutedClose, Refused}
-use Rattle.ring_core.specs.declared.ledger.Refusal.TheVariants.{NotFlying as NoFlight, Waiting as Waits, BadOutcome as WrongOutcome}
+use Rattle.machine.specs.declared.ledger.Reply.{Reply}
+use Rattle.machine.specs.declared.ledger.Reply.TheVariants.{ExecutedOp, ExecutedClose, Refused}
+use Rattle.machine.specs.declared.ledger.Refusal.TheVariants.{NotFlying as NoFlight, Waiting as Waits, BadOutcome as WrongOutcome}
 use Rattle.ring_core.specs.declared.mem_ring.ExecRefusal.{ExecRefusal}
 use Rattle.ring_core.specs.declared.mem_ring.ExecRefusal.TheVariants.{NotFlying, Waiting, BadOutcome, OutOfMemory}
 use Rattle.driver_core.specs.declared.op.Executed.{Executed}

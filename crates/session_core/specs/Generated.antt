@@ -4,14 +4,14 @@ use Rattle.std.specs.Prelude.{if◌then◌else◌}
 use Rattle.rent_buf.specs.Buffer.{Buffer}
 use Rattle.rent_buf.specs.Parts.{Parts}
 use Rattle.rent_buf.specs.declared.kind.Kind.TheVariants.{Vector}
-use Rattle.ring_core.specs.declared.ledger.Event.{Event}
-use Rattle.ring_core.specs.declared.ledger.Event.TheVariants.{Give, Feed, Submit, Poll, Drop, Cancel, Turn, Exec}
-use Rattle.ring_core.specs.declared.request.TheConstants.{CANCELED}
-use Rattle.ring_core.specs.declared.request.Request.{Request}
-use Rattle.ring_core.specs.declared.request.Request.TheVariants.{Recv}
-use Rattle.ring_core.specs.declared.request.Told.{Told}
-use Rattle.ring_core.specs.declared.request.Told.TheVariants.{Count, Fail}
-use Rattle.ring_core.specs.declared.world.HandleKind.TheVariants.{Stream}
+use Rattle.machine.specs.declared.ledger.Event.{Event}
+use Rattle.machine.specs.declared.ledger.Event.TheVariants.{Give, Feed, Submit, Poll, Drop, Cancel, Turn, Exec}
+use Rattle.machine.specs.declared.request.TheConstants.{CANCELED}
+use Rattle.machine.specs.declared.request.Request.{Request}
+use Rattle.machine.specs.declared.request.Request.TheVariants.{Recv}
+use Rattle.machine.specs.declared.request.Told.{Told}
+use Rattle.machine.specs.declared.request.Told.TheVariants.{Count, Fail}
+use Rattle.machine.specs.declared.world.HandleKind.TheVariants.{Stream}
 use Rattle.session_core.specs.declared.generated.TheConstants.{DIVISOR, FACTOR, READ, STATES, SUMMAND}
 
 -- The state after one more draw.

@@ -1,6 +1,6 @@
 -- What reading an input has done, and why it stopped. Cited by the functions of `input`.
 use Rattle.std.specs.Prelude.{ℕ, ◌≡◌, ◌<◌, ◌≤◌, ◌+◌, Bool, IsTrue, List, [], length}
-use Rattle.ring_core.specs.Counts.{Rose}
+use Rattle.machine.specs.Counts.{Rose}
 use Rattle.rent_io.specs.Call.{Took}
 use Rattle.session_core.specs.declared.input.NoEvents.{NoEvents}
 use Rattle.session_core.specs.declared.input.TheConstants.{MOST_INPUT, PIECE}

@@ -1,6 +1,6 @@
 -- What `echo` and `relay` have done, by the status. Cited by `top`.
 use Rattle.std.specs.Prelude.{ℕ, ◌≡◌, ◌≤◌, ◌+◌, Bool, IsTrue, List, ◌++◌, codes, decimal, min}
-use Rattle.ring_core.specs.Counts.{Rose}
+use Rattle.machine.specs.Counts.{Rose}
 use Rattle.rent_io.specs.Call.{Writing}
 use Rattle.ready_driver.specs.Io.{IoView}
 use Rattle.relay_run.specs.Relaying.{IsEmptyWorld}

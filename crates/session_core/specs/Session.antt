@@ -2,13 +2,13 @@
 use Rattle.std.specs.Prelude.{ℕ, ◌≡◌, ◌≤◌, List, [], length, map, Option, Some, None, Result, Ok, Err}
 use Rattle.rent_buf.specs.Buf.{built}
 use Rattle.rent_buf.specs.declared.fault.OutOfMemory.{OutOfMemory}
-use Rattle.ring_core.specs.declared.ledger.Event.{Event}
-use Rattle.ring_core.specs.declared.ledger.Event.TheVariants.{End, Close, Poll, Drop}
-use Rattle.ring_core.specs.declared.ledger.Reply.{Reply}
+use Rattle.machine.specs.declared.ledger.Event.{Event}
+use Rattle.machine.specs.declared.ledger.Event.TheVariants.{End, Close, Poll, Drop}
+use Rattle.machine.specs.declared.ledger.Reply.{Reply}
 use Rattle.ring_core.specs.Ring.{RingView}
-use Rattle.ring_core.specs.Ledger.{Ledger}
-use Rattle.ring_core.specs.Refusal.{cause}
-use Rattle.ring_core.specs.Step.{step}
+use Rattle.machine.specs.Ledger.{Ledger}
+use Rattle.machine.specs.Refusal.{cause}
+use Rattle.machine.specs.Step.{step}
 use Rattle.rent_buf.specs.declared.plain.Buf.{Buf}
 use Rattle.driver_core.specs.declared.op.Op.{Op}
 use Rattle.uring_driver.specs.declared.uring.IoUringDriver.{IoUringDriver}

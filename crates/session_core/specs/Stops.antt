@@ -1,8 +1,8 @@
 -- At which line a command stopped that reads lines. Cited by `top` and by the functions that it calls.
 use Rattle.std.specs.Prelude.{ℕ, ◌≡◌, ◌≤◌, ◌-◌, ◌⊎◌, Bool, IsTrue, List, ◌++◌, length, take, Option, Some, None, Result, Ok, Err}
-use Rattle.ring_core.specs.declared.ledger.Event.{Event}
-use Rattle.ring_core.specs.Counts.{Rose}
-use Rattle.ring_core.specs.Ledger.{Ledger, empty}
+use Rattle.machine.specs.declared.ledger.Event.{Event}
+use Rattle.machine.specs.Counts.{Rose}
+use Rattle.machine.specs.Ledger.{Ledger, empty}
 use Rattle.rent_io.specs.Call.{Reading, Writing}
 use Rattle.event_text.specs.TextLines.{lines, IsFirstWrongFor}
 use Rattle.session_core.specs.declared.command.Command.{Command}

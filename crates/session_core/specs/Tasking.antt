@@ -1,7 +1,7 @@
 -- What `tasks` has done, by its status. Cited by `top` and `run_tasks`.
 use Rattle.std.specs.Prelude.{ℕ, ◌≡◌, ◌⊎◌, Bool, IsTrue, List, ◌++◌, Option, Some, None}
 use Rattle.rent_io.specs.Call.{Reading, Writing}
-use Rattle.ring_core.specs.Counts.{Rose}
+use Rattle.machine.specs.Counts.{Rose}
 use Rattle.task_run.specs.Tasks.{IsWrongLine, OutputFor}
 use Rattle.session_core.specs.declared.top.Status.{Status}
 use Rattle.session_core.specs.declared.top.Status.TheVariants.{Done, BadWords, BadLine, TooLong}

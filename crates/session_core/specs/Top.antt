@@ -2,11 +2,11 @@
 -- it begins with.
 use Rattle.std.specs.Prelude.{ℕ, ◌≡◌, ◌≤◌, Bool, true, false, IsTrue, List, [], ◌∷◌, ◌++◌, length, drop, Option, Some, codes, decimal}
 use Rattle.std.specs.List.{AllZip, count_by}
-use Rattle.ring_core.specs.declared.ledger.Event.{Event}
-use Rattle.ring_core.specs.declared.ledger.Reply.{Reply}
-use Rattle.ring_core.specs.declared.ledger.Reply.TheVariants.{Handed, Refused}
-use Rattle.ring_core.specs.Ledger.{Ledger, empty}
-use Rattle.ring_core.specs.Run.{ledger, replies}
+use Rattle.machine.specs.declared.ledger.Event.{Event}
+use Rattle.machine.specs.declared.ledger.Reply.{Reply}
+use Rattle.machine.specs.declared.ledger.Reply.TheVariants.{Handed, Refused}
+use Rattle.machine.specs.Ledger.{Ledger, empty}
+use Rattle.machine.specs.Run.{ledger, replies}
 pub use Rattle.rent_io.specs.Call.{TookMore}
 use Rattle.session_core.specs.declared.session.Session.{Session}
 use Rattle.session_core.specs.declared.top.Kept.{Kept}

@@ -1,6 +1,6 @@
 -- What `gen SEED COUNT --events` writes. Cited by `top`.
 use Rattle.std.specs.Prelude.{ℕ, ◌≡◌, Bool, IsTrue, List, [], ◌∷◌, ◌++◌}
-use Rattle.ring_core.specs.declared.ledger.Event.{Event}
+use Rattle.machine.specs.declared.ledger.Event.{Event}
 use Rattle.event_text.specs.TextEvent.{event_text}
 use Rattle.session_core.specs.declared.top.Status.{Status}
 use Rattle.session_core.specs.declared.top.Status.TheVariants.{Done, WriteFault, OutOfMemory}

@@ -1,6 +1,6 @@
 -- What writing a text has done, and why it stopped. Cited by the functions of `output`, and by those of `top` that call them.
 use Rattle.std.specs.Prelude.{ℕ, ◌≡◌, ◌≤◌, Bool, IsTrue, List, ◌++◌, Result, Ok, Err}
-use Rattle.ring_core.specs.Counts.{Rose}
+use Rattle.machine.specs.Counts.{Rose}
 use Rattle.rent_io.specs.declared.source.Failed.{Failed}
 use Rattle.session_core.specs.declared.input.NoEvents.{NoEvents}
 use Rattle.session_core.specs.declared.output.Unwritten.{Unwritten}

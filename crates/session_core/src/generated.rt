@@ -1,14 +1,14 @@
 //! Events that a seed generates.
 ghost use Rattle.std.specs.Prelude.{◌≡◌, ◌+◌, ◌*◌, ◌<◌, ◌^◌, ◌++◌, IfOk, OnOk, if◌then◌else◌, replicate};
-ghost use Rattle.ring_core.specs.Run.{ledger};
+ghost use Rattle.machine.specs.Run.{ledger};
 ghost use Rattle.session_core.specs.Session.{SessionStands};
 ghost use Rattle.session_core.specs.Top.{generated_text, is_ready, is_refused, summary_text};
 ghost use Rattle.session_core.specs.Generated.{asked, generated_events, next_state, round_events, small_read, told};
 
 use crate::session::Session;
 use event_text::put_number;
+use machine::{CANCELED, Event, HandleKind, Reply, Request, SharedFd, Told};
 use rent_buf::{BufSpec, ByteList, Kind, OutOfMemory, PartsSpec};
-use ring_core::{CANCELED, Event, HandleKind, Reply, Request, SharedFd, Told};
 use std::alloc::Global;
 
 /// How many entries the queue has over which generated events run. (not in monoio)

@@ -1,8 +1,8 @@
 //! Writing replies and lines to a sink.
 ghost use Rattle.std.specs.Prelude.{◌≡◌, ◌<◌, ◌≤◌, ◌++◌, [], List, Err, None, IfOk, IfErr, OnOk, OnErr, IsTrue, decimal};
 ghost use Rattle.std.specs.List.{AllZip};
-ghost use Rattle.ring_core.specs.Ledger.{Ledger};
-ghost use Rattle.ring_core.specs.declared.ledger.Event.{Event};
+ghost use Rattle.machine.specs.Ledger.{Ledger};
+ghost use Rattle.machine.specs.declared.ledger.Event.{Event};
 ghost use Rattle.event_text.specs.TextLines.{AreEventsFor, lines};
 ghost use Rattle.session_core.specs.DriverKind.{StandsOn, after_on, replies_on};
 ghost use Rattle.event_text.specs.TextReply.{reply_text};
@@ -15,9 +15,9 @@ use crate::stepping::Stepping;
 use crate::top::{Status, Stop};
 use event_text::{first_line, write_reply};
 use itoa::Buffer;
+use machine::Reply;
 use rent_buf::OutOfMemory;
 use rent_io::{ByteSink, Failed};
-use ring_core::Reply;
 use std::alloc::Global;
 
 // From how many bytes on the text of replies is written.

@@ -1,6 +1,6 @@
 //! The commands `echo` and `relay`.
 ghost use Rattle.std.specs.Prelude.{◌≡◌, ◌≤◌, ◌<◌};
-ghost use Rattle.ring_core.specs.Counts.{Rose};
+ghost use Rattle.machine.specs.Counts.{Rose};
 ghost use Rattle.relay_run.specs.declared.plan.TheConstants.{MOST_LIMIT, MOST_RELAY_ROUNDS};
 ghost use Rattle.session_core.specs.Ends.{writing};
 ghost use Rattle.session_core.specs.Relays.{OpensFor, RelaysFor};

@@ -1,10 +1,10 @@
 //! A session: a driver over the ring in memory, and what it keeps by number: tokens of operations, cancellers and cancel handles.
 ghost use Rattle.std.specs.Prelude.{◌≡◌, ◌<◌, length, IfOk, IsOk};
 ghost use Rattle.rent_buf.specs.Buf.{built};
-ghost use Rattle.ring_core.specs.Request.{held_of, plain_request};
-ghost use Rattle.ring_core.specs.Ledger.{Ledger, empty};
-ghost use Rattle.ring_core.specs.Run.{ledger, replies};
-ghost use Rattle.ring_core.specs.Step as machine;
+ghost use Rattle.machine.specs.Request.{held_of, plain_request};
+ghost use Rattle.machine.specs.Ledger.{Ledger, empty};
+ghost use Rattle.machine.specs.Run.{ledger, replies};
+ghost use Rattle.machine.specs.Step as machine;
 ghost use Rattle.run_laws.specs.Closes.{ClosedOnce, ClosedWhenReleased, ClosedWhenOver, ClosedWhenMakerOver, UnheldCloses};
 ghost use Rattle.run_laws.specs.Closes.{CreatedOnce, MadeOnce, UsedWhenReturned};
 ghost use Rattle.run_laws.specs.Bytes.{InputInOrder, MessagesInOrder, FilesHoldLast, OutputInOrder, SentInOrder};
@@ -15,17 +15,17 @@ ghost use Rattle.run_laws.specs.Waits.{WaitsOnceTaken, WaitsOnlyTaken, WaitsBehi
 ghost use Rattle.run_laws.specs.Waits.{MovesBehindLeader, StartsBehindLeader, BreaksWithLeader, BreaksChain, CompletesInOrder};
 ghost use Rattle.run_laws.specs.Groups.{CancelsMembers, CanceledAtOnceExactly, NoCancellerExactly};
 ghost use Rattle.run_laws.specs.Groups.{CancellersInOrder, HandlesInOrder};
-ghost use Rattle.ring_core.specs.declared.ledger.Event.TheVariants.{Give, Feed, FeedMessage, End, Poll, Drop, Cancel, Turn, Exec};
+ghost use Rattle.machine.specs.declared.ledger.Event.TheVariants.{Give, Feed, FeedMessage, End, Poll, Drop, Cancel, Turn, Exec};
 ghost use Rattle.session_core.specs.Session.{AreParts, PartsStand, SessionStands, SessionAnswers, StepsFor, TakesNoMemory, driver_in};
 ghost use Rattle.session_core.specs.Executed.{reply_to, AnswersRefusal};
 ghost use Rattle.session_core.specs.Submission.{IsSubmit};
 
 use driver_core::{RunError, Tokens};
-use rent_buf::{Buf, Held, HeldBuf, OutOfMemory, VecBuf};
-use ring_core::{
-    Event, ExecRefusal, HandleKind, Look, MOST_HANDLES, MemRing, Refusal, Reply, Request, SharedFd,
-    Told, WorldError,
+use machine::{
+    Event, HandleKind, Look, MOST_HANDLES, Refusal, Reply, Request, SharedFd, Told, WorldError,
 };
+use rent_buf::{Buf, Held, HeldBuf, OutOfMemory, VecBuf};
+use ring_core::{ExecRefusal, MemRing};
 use std::alloc::Global;
 use uring_driver::{Driver as _, Executed, IoUringDriver, MOST_GIVEN, PollOp};
 

@@ -1,6 +1,6 @@
 //! What commands run events on: a session over the completion driver, or over the readiness driver.
 ghost use Rattle.std.specs.Prelude.{◌≡◌, [], IfOk, MatchOption};
-ghost use Rattle.ring_core.specs.Ledger.{Ledger};
+ghost use Rattle.machine.specs.Ledger.{Ledger};
 ghost use Rattle.event_text.specs.TextLines.{AreEventsFor, IsFirstWrongFor, IsWrong, lines};
 ghost use Rattle.event_text.specs.TextLook.{line_end};
 ghost use Rattle.ready_run.specs.ReadySession.{ReadyStands};
@@ -9,9 +9,9 @@ ghost use Rattle.session_core.specs.Session.{SessionStands};
 
 use crate::session::Session;
 use event_text::{event_of_line, first_wrong};
+use machine::{Event, Reply};
 use ready_run::ReadySession;
 use rent_buf::OutOfMemory;
-use ring_core::{Event, Reply};
 use std::alloc::Global;
 
 /// A session that takes events, one by one, and answers each.

@@ -1,11 +1,11 @@
 //! The top call: all that the program does, over any source and sink.
 ghost use Rattle.std.specs.Prelude.{◌≡◌, ◌≤◌, ◌<◌, ◌*◌, ◌⊎◌, ◌↔◌, map, string_bytes, List, None, Some, IfOk, IsSome, IsTrue, length, ℕ};
 ghost use Rattle.std.specs.List.{AllZip};
-ghost use Rattle.ring_core.specs.Ledger.{Ledger, empty};
-ghost use Rattle.ring_core.specs.declared.ledger.Event.{Event};
-ghost use Rattle.ring_core.specs.Run.{ledger};
+ghost use Rattle.machine.specs.Ledger.{Ledger, empty};
+ghost use Rattle.machine.specs.declared.ledger.Event.{Event};
+ghost use Rattle.machine.specs.Run.{ledger};
 ghost use Rattle.session_core.specs.Session.{SessionStands};
-ghost use Rattle.ring_core.specs.Counts.{Rose};
+ghost use Rattle.machine.specs.Counts.{Rose};
 ghost use Rattle.session_core.specs.Command.{IsRun, IsReady, IsGenerate, IsTrace, IsWake, IsCopy};
 ghost use Rattle.session_core.specs.Command.{IsNoCommand, IsRelay, IsTasks, IsUnframe, IsWithin, KeepsNothing, ReadsNothing, UsesNoNet};
 ghost use Rattle.session_core.specs.DriverKind.{StandsOn, completion, readiness};

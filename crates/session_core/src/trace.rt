@@ -8,9 +8,9 @@ use crate::generated::generated;
 use crate::output::write_last;
 use crate::top::Status;
 use event_text::write_event;
+use machine::Event;
 use rent_buf::OutOfMemory;
 use rent_io::ByteSink;
-use ring_core::Event;
 use std::alloc::Global;
 
 /// Writes the text of each event that a seed generates, and a newline.

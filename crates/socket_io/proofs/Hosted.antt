@@ -1,7 +1,7 @@
 -- What is sent on a socket, of what a request shows.
 use Rattle.std.proofs.Common.{◌≡◌, ℕ, ◌≤◌, List, ◌∙◌, ap, arith, length, take, ◌++◌}
 use Rattle.std.proofs.lemmas.List.{length-append, length-take}
-use Rattle.ring_core.specs.declared.request.TheConstants.{MOST_ASKED}
+use Rattle.machine.specs.declared.request.TheConstants.{MOST_ASKED}
 use Rattle.socket_io.specs.declared.mio_io.TheConstants.{MOST_MOVED}
 
 -- What is sent of some bytes, no more than one call moves, is no more than what a request asks for.

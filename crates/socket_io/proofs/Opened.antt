@@ -8,7 +8,7 @@ use Rattle.std.specs.Map.{lookup, keys_of}
 use Rattle.std.specs.List.{IsDistinct}
 use Rattle.std.specs.HashMap.{HashMap, get_by, Updates, WritesThrough}
 use Rattle.handle_core.proofs.Tables.{get-lookup, len-from_entries, same-entries, inserted-entries, removed-entries}
-use Rattle.ring_core.specs.declared.world.HandleKind.{HandleKind}
+use Rattle.machine.specs.declared.world.HandleKind.{HandleKind}
 use Rattle.socket_io.specs.declared.mio_io.socket.Socket.{Socket}
 use Rattle.socket_io.specs.SocketTable.{OpenSockets, kind_of, kinds_in, table_of, RefusesUnfit}
 use Rattle.socket_io.specs.declared.mio_io.socket.Refusal.{Refusal}

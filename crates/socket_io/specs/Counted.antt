@@ -1,6 +1,6 @@
 -- How calls are counted: those that failed as a whole, would have blocked, and ended with an error. Cited by `Counts` and `MioIo`.
 use Rattle.std.specs.Prelude.{ℕ, ◌≡◌, ◌≤◌, ◌+◌, ◌-◌, ◌^◌, min, Result, Ok, Err}
-use Rattle.ring_core.specs.declared.request.Outcome.TheVariants.{Count, From, Made, Fail}
+use Rattle.machine.specs.declared.request.Outcome.TheVariants.{Count, From, Made, Fail}
 use Rattle.driver_core.specs.declared.operations.calls.CallAnswer.{CallAnswer}
 use Rattle.driver_core.specs.declared.operations.calls.CallAnswer.TheVariants.{Done, WouldBlock as Blocks, OutOfMemory as NoMemory}
 use Rattle.socket_io.specs.declared.mio_io.socket.Refusal.{Refusal}

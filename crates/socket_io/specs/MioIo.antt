@@ -5,15 +5,15 @@ use Rattle.std.specs.FinMap as finite
 use Rattle.std.specs.Coded.{Coded, code_by, coded×, coded_ℕ, coded_option, coded_list}
 use Rattle.rent_buf.specs.Buffer.{Buffer}
 use Rattle.rent_buf.specs.Parts.{Parts}
-use Rattle.ring_core.specs.declared.request.Request.{Request}
-use Rattle.ring_core.specs.declared.request.Call.{Call}
-use Rattle.ring_core.specs.declared.request.Call.TheVariants.{In, Out, Accept, PollAdd}
-use Rattle.ring_core.specs.declared.request.Outcome.{Outcome}
-use Rattle.ring_core.specs.declared.request.Outcome.TheVariants.{Count, Made, Fail}
-use Rattle.ring_core.specs.declared.world.HandleKind.{HandleKind}
-use Rattle.ring_core.specs.declared.world.HandleKind.TheVariants.{Stream}
-use Rattle.ring_core.specs.declared.world.call.TheConstants.{INVALID}
-use Rattle.ring_core.specs.Request.{call_of, held_after, IsHolding}
+use Rattle.machine.specs.declared.request.Request.{Request}
+use Rattle.machine.specs.declared.request.Call.{Call}
+use Rattle.machine.specs.declared.request.Call.TheVariants.{In, Out, Accept, PollAdd}
+use Rattle.machine.specs.declared.request.Outcome.{Outcome}
+use Rattle.machine.specs.declared.request.Outcome.TheVariants.{Count, Made, Fail}
+use Rattle.machine.specs.declared.world.HandleKind.{HandleKind}
+use Rattle.machine.specs.declared.world.HandleKind.TheVariants.{Stream}
+use Rattle.machine.specs.declared.world.call.TheConstants.{INVALID}
+use Rattle.machine.specs.Request.{call_of, held_after, IsHolding}
 use Rattle.driver_core.specs.declared.operations.calls.CallAnswer.{CallAnswer}
 use Rattle.driver_core.specs.declared.operations.calls.CallAnswer.TheVariants.{Done, OutOfMemory as NoMemory}
 use Rattle.socket_io.specs.declared.mio_io.TheConstants.{UNSUPPORTED}

@@ -3,10 +3,10 @@ use Rattle.std.specs.Prelude.{ℕ, ◌≡◌, ◌<◌, Bool, true, false, List, 
 use Rattle.std.specs.Ordering.{nat_cmp}
 use Rattle.std.specs.FinMap as finite
 use Rattle.std.specs.Coded.{Coded, code_by, coded×, coded_ℕ}
-use Rattle.ring_core.specs.declared.entry.TheConstants.{MOST_HANDLES}
-use Rattle.ring_core.specs.declared.world.call.TheConstants.{INVALID}
-use Rattle.ring_core.specs.declared.world.HandleKind.{HandleKind}
-use Rattle.ring_core.specs.declared.world.HandleKind.TheVariants.{Listener, Stream}
+use Rattle.machine.specs.declared.world.TheConstants.{MOST_HANDLES}
+use Rattle.machine.specs.declared.world.call.TheConstants.{INVALID}
+use Rattle.machine.specs.declared.world.HandleKind.{HandleKind}
+use Rattle.machine.specs.declared.world.HandleKind.TheVariants.{Listener, Stream}
 use Rattle.socket_io.specs.declared.mio_io.socket.Socket.{Socket}
 use Rattle.socket_io.specs.declared.mio_io.socket.Socket.TheVariants.{Listener as Listening, Stream as Streaming}
 use Rattle.socket_io.specs.declared.mio_io.socket.Refusal.{Refusal}

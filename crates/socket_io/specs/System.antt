@@ -6,7 +6,7 @@ use Rattle.std.specs.declared.net.ip_addr.IpAddr.TheVariants.{V4}
 use Rattle.std.specs.declared.net.socket_addr.SocketAddr.{SocketAddr}
 use Rattle.std.specs.Net.Addr.{ipv4_octets}
 use Rattle.std.specs.Net.Socket.{socket_ip, socket_port}
-use Rattle.ring_core.specs.declared.request.TheConstants.{LAST_ERROR}
+use Rattle.machine.specs.declared.request.TheConstants.{LAST_ERROR}
 use Rattle.mio.specs.declared.event.event.Event.{Event}
 use Rattle.mio.specs.Event.{event_token, is_readable, is_writable, is_read_closed, is_write_closed}
 use Rattle.socket_io.specs.declared.mio_io.socket.TheConstants.{NO_NUMBER}

@@ -9,10 +9,10 @@ ghost use Rattle.task_run.specs.Tasks.{AreResults, IsSpawned, OutputFor, bytes_a
 use crate::output::{put_left, put_results, put_wrong};
 use core_exec::Exec;
 use event_text::{first_line, read_bytes};
+use machine::{HandleKind, MOST_HANDLES, SharedFd};
 use pipe_job::{PipeExec, PipeJob, abandon_all, turn};
 use ready_driver::{LegacyDriver, MemIo};
 use rent_buf::{ByteList, IoFault, OutOfMemory};
-use ring_core::{HandleKind, MOST_HANDLES, SharedFd};
 use std::alloc::Global;
 
 // How many turns are made at most.

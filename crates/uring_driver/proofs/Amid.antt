@@ -6,17 +6,17 @@ use Rattle.std.proofs.lemmas.Bool.Decides.{nat_tests}
 use Rattle.std.specs.Ordering.{nat_cmp}
 use Rattle.std.specs.FinMap.{FinMap, get, len, remove}
 use Rattle.rent_buf.specs.Buffer.{Buffer}
-use Rattle.ring_core.specs.declared.entry.Completion.{Completion}
+use Rattle.machine.specs.declared.completion.Completion.{Completion}
 use Rattle.ring_core.specs.declared.entry.Target.TheVariants.{Handle, Reserved}
-use Rattle.ring_core.specs.declared.entry.TheConstants.{MOST_HANDLES}
+use Rattle.machine.specs.declared.world.TheConstants.{MOST_HANDLES}
 use Rattle.ring_core.specs.Entry.{target}
 use Rattle.ring_core.specs.Ring.{RingView, with_done}
-use Rattle.ring_core.specs.Ledger.{Ledger, Item}
-use Rattle.ring_core.specs.Turn.{ops_in, closes_in, tasks_woken}
-use Rattle.ring_core.specs.Closes.{close_count, AreKnown, ClosesOnce, MadeAlone}
-use Rattle.ring_core.proofs.Occurring.{same-cases}
-use Rattle.ring_core.proofs.Closing.{count-first, known-lists}
-use Rattle.ring_core.proofs.Once.{once-first}
+use Rattle.machine.specs.Ledger.{Ledger, Item}
+use Rattle.machine.specs.Turn.{ops_in, closes_in, tasks_woken}
+use Rattle.machine.specs.Closes.{close_count, AreKnown, ClosesOnce, MadeAlone}
+use Rattle.machine.proofs.Occurring.{same-cases}
+use Rattle.machine.proofs.Closing.{count-first, known-lists}
+use Rattle.machine.proofs.Once.{once-first}
 use Rattle.driver_core.specs.declared.slot.Slot.{Slot}
 use Rattle.driver_core.specs.Holds.{AreMaking}
 use Rattle.driver_core.proofs.Lists.{some}

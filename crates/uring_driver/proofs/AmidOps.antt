@@ -7,32 +7,32 @@ use Rattle.std.proofs.lemmas.Bool.Decides.{nat_tests}
 use Rattle.std.specs.Ordering.{nat_cmp}
 use Rattle.std.specs.FinMap.{FinMap, get}
 use Rattle.rent_buf.specs.Buffer.{Buffer}
-use Rattle.ring_core.specs.declared.entry.TheConstants.{MOST_HANDLES}
-use Rattle.ring_core.specs.declared.entry.Completion.{Completion}
+use Rattle.machine.specs.declared.world.TheConstants.{MOST_HANDLES}
+use Rattle.machine.specs.declared.completion.Completion.{Completion}
 use Rattle.ring_core.specs.declared.entry.Target.{Target}
 use Rattle.ring_core.specs.declared.entry.Target.TheVariants.{Slot as Keyed, Handle, Reserved}
 use Rattle.ring_core.specs.Entry.{target, close_entry}
-use Rattle.ring_core.specs.Lists.{has_number, numbers_where}
-use Rattle.ring_core.specs.Request.{named as handles_of, makes}
-use Rattle.ring_core.specs.Ranks.{one_if}
-use Rattle.ring_core.specs.Effect.{made_by}
+use Rattle.machine.specs.Lists.{has_number, numbers_where}
+use Rattle.machine.specs.Request.{named as handles_of, makes}
+use Rattle.machine.specs.Lists.{one_if}
+use Rattle.machine.specs.Effect.{made_by}
 use Rattle.handle_core.specs.Table.{holders_at}
 use Rattle.ring_core.specs.Ring.{RingView, pushed, with_done}
-use Rattle.ring_core.specs.Ledger.{Ledger, Operation, Place, InQueue, InFlight, InDone, Reaped, Queued, Op, Gone, is_live, is_kept}
-use Rattle.ring_core.specs.Ledger.{is_owned, with_made}
-use Rattle.ring_core.specs.Queue.{at_place, with_op, push, push_each, is_unheld, became_unheld, with_gone, leave}
-use Rattle.ring_core.specs.Turn.{reaped_place, with_reap, reap_if, reap_op, reap_one, reap_each, task_if, task_woken, tasks_woken}
-use Rattle.ring_core.specs.Closes.{close_count, ClosesOnce, made_at}
-use Rattle.ring_core.proofs.Where.{where-kept}
-use Rattle.ring_core.proofs.Staying.{stays-leave}
-use Rattle.ring_core.proofs.Numbers.{below-or-not}
-use Rattle.ring_core.proofs.Holders.{AreLive, held-by_op}
-use Rattle.ring_core.proofs.Making.{From, ops_from-then, ops_from-op, from-gone}
-use Rattle.ring_core.proofs.Alone.{alone-from, made-there, made-holding}
-use Rattle.ring_core.proofs.Leaving.{named-ascends, has-first, has-later}
-use Rattle.ring_core.proofs.Closing.{count-first, known-stays, known-op}
-use Rattle.ring_core.proofs.Once.{once-first, once-op, once-leave}
-use Rattle.ring_core.proofs.Turning.{reap-holds, reaped-kept}
+use Rattle.machine.specs.Ledger.{Ledger, Operation, Place, InQueue, InFlight, InDone, Reaped, Queued, Op, Gone, is_live, is_kept}
+use Rattle.machine.specs.Ledger.{is_owned, with_made}
+use Rattle.machine.specs.Queue.{at_place, with_op, push, push_each, is_unheld, became_unheld, with_gone, leave}
+use Rattle.machine.specs.Turn.{reaped_place, with_reap, reap_if, reap_op, reap_one, reap_each, task_if, task_woken, tasks_woken}
+use Rattle.machine.specs.Closes.{close_count, ClosesOnce, made_at}
+use Rattle.machine.proofs.Where.{where-kept}
+use Rattle.machine.proofs.Staying.{stays-leave}
+use Rattle.machine.proofs.Numbers.{below-or-not}
+use Rattle.machine.proofs.Holders.{AreLive, held-by_op}
+use Rattle.machine.proofs.Making.{From, ops_from-then, ops_from-op, from-gone}
+use Rattle.machine.proofs.Alone.{alone-from, made-there, made-holding}
+use Rattle.machine.proofs.Leaving.{named-ascends, has-first, has-later}
+use Rattle.machine.proofs.Closing.{count-first, known-stays, known-op}
+use Rattle.machine.proofs.Once.{once-first, once-op, once-leave}
+use Rattle.machine.proofs.Turning.{reap-holds, reaped-kept}
 use Rattle.driver_core.specs.declared.slot.Slot.{Slot}
 use Rattle.driver_core.specs.Slots.{life_of, life_at}
 use Rattle.driver_core.specs.Holds.{dropped_in, is_maker, is_dropped, made_life, seen, is_seen, is_nobody, without_ops, unheld_by, CanLeave}

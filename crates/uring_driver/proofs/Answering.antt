@@ -12,20 +12,20 @@ use Rattle.driver_core.proofs.Counts.{where-within, owned-lives}
 use Rattle.driver_core.proofs.Grouping.{groups-kept, groups-left}
 use Rattle.driver_core.proofs.Placing.{in-slots-left}
 use Rattle.rent_buf.specs.Buffer.{Buffer}
-use Rattle.ring_core.specs.declared.ledger.Event.{Event}
-use Rattle.ring_core.specs.declared.ledger.Reply.{Reply}
-use Rattle.ring_core.specs.Ledger.{Ledger, is_live, is_owned}
-use Rattle.ring_core.specs.Lists.{numbers_where}
+use Rattle.machine.specs.declared.ledger.Event.{Event}
+use Rattle.machine.specs.declared.ledger.Reply.{Reply}
+use Rattle.machine.specs.Ledger.{Ledger, is_live, is_owned}
+use Rattle.machine.specs.Lists.{numbers_where}
 use Rattle.ring_core.specs.Ring.{RingView}
-use Rattle.ring_core.specs.Run.{ledger}
-use Rattle.ring_core.specs.Step.{step}
-use Rattle.ring_core.proofs.Grouped.{groups-step}
-use Rattle.ring_core.proofs.Grouping.{GroupsStay, may_group}
-use Rattle.ring_core.specs.Closes.{MadeAlone}
-use Rattle.ring_core.proofs.Alone.{alone-ledger}
-use Rattle.ring_core.proofs.Lawful.{Lawful, lawful-ledger}
-use Rattle.ring_core.proofs.Parting.{Follows}
-use Rattle.ring_core.proofs.Following.{follows-ledger}
+use Rattle.machine.specs.Run.{ledger}
+use Rattle.machine.specs.Step.{step}
+use Rattle.machine.proofs.Grouped.{groups-step}
+use Rattle.machine.proofs.Grouping.{GroupsStay, may_group}
+use Rattle.machine.specs.Closes.{MadeAlone}
+use Rattle.machine.proofs.Alone.{alone-ledger}
+use Rattle.machine.proofs.Lawful.{Lawful, lawful-ledger}
+use Rattle.machine.proofs.Parting.{Follows}
+use Rattle.machine.proofs.Following.{follows-ledger}
 use Rattle.uring_driver.specs.declared.uring.IoUringDriver.{IoUringDriver}
 use Rattle.uring_driver.specs.Holding.{HandlesStand}
 use Rattle.uring_driver.specs.Op.{ops_in}

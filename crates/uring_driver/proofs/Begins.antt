@@ -6,17 +6,17 @@ use Rattle.std.specs.Ordering.{nat_cmp}
 use Rattle.std.specs.FinMap.{FinMap}
 use Rattle.rent_buf.specs.Buffer.{Buffer}
 use Rattle.ring_core.specs.Ring.{RingView}
-use Rattle.ring_core.specs.Ledger.{Ledger, Queued}
-use Rattle.ring_core.specs.Queue.{take_each, take_all}
-use Rattle.ring_core.specs.Closes.{close_count, closes_queued, closes_listed}
-use Rattle.ring_core.proofs.Closing.{closes-flown, known-stays}
-use Rattle.ring_core.proofs.Making.{OpsFrom}
-use Rattle.ring_core.proofs.Alone.{alone-from}
-use Rattle.ring_core.proofs.Once.{once-same}
-use Rattle.ring_core.proofs.Holders.{SameHolders, AreLive, holders-take_each}
-use Rattle.ring_core.proofs.Occurring.{closes_queued-append}
-use Rattle.ring_core.proofs.Staying.{stays-take_each}
-use Rattle.ring_core.proofs.Taken.{queue-take_each}
+use Rattle.machine.specs.Ledger.{Ledger, Queued}
+use Rattle.machine.specs.Queue.{take_each, take_all}
+use Rattle.machine.specs.Closes.{close_count, closes_queued, closes_listed}
+use Rattle.machine.proofs.Closing.{closes-flown, known-stays}
+use Rattle.machine.proofs.Making.{OpsFrom}
+use Rattle.machine.proofs.Alone.{alone-from}
+use Rattle.machine.proofs.Once.{once-same}
+use Rattle.machine.proofs.Holders.{SameHolders, AreLive, holders-take_each}
+use Rattle.machine.proofs.Occurring.{closes_queued-append}
+use Rattle.machine.proofs.Staying.{stays-take_each}
+use Rattle.machine.proofs.Taken.{queue-take_each}
 use Rattle.driver_core.specs.declared.slot.Slot.{Slot}
 use Rattle.driver_core.specs.Holds.{AreMaking}
 use Rattle.driver_core.proofs.Lists.{get-front}

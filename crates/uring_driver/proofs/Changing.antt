@@ -8,20 +8,20 @@ use Rattle.std.specs.FinMap.{FinMap, get, insert, remove}
 use Rattle.rent_buf.specs.Buffer.{Buffer}
 use Rattle.op_slots.specs.declared.lifecycle.Lifecycle.{Lifecycle}
 use Rattle.ring_core.specs.Ring.{RingView}
-use Rattle.ring_core.specs.Lists.{amended}
-use Rattle.ring_core.specs.declared.request.Outcome.{Outcome}
+use Rattle.machine.specs.Lists.{amended}
+use Rattle.machine.specs.declared.request.Outcome.{Outcome}
 use Rattle.ring_core.specs.declared.entry.Body.TheVariants.{Cancel as Cancels}
 use Rattle.ring_core.specs.declared.entry.Entry.{Entry}
-use Rattle.ring_core.specs.Ledger.{Ledger, Cancel, Operation, Place, InQueue, InFlight, InDone, Reaped, is_live, is_kept}
-use Rattle.ring_core.specs.Queue.{with_op, append}
-use Rattle.ring_core.proofs.Amended.{get-amended-same, get-amended-other}
+use Rattle.machine.specs.Ledger.{Ledger, Cancel, Operation, Place, InQueue, InFlight, InDone, Reaped, is_live, is_kept}
+use Rattle.machine.specs.Queue.{with_op, append}
+use Rattle.machine.proofs.Amended.{get-amended-same, get-amended-other}
 use Rattle.driver_core.specs.declared.slot.Slot.{Slot}
 use Rattle.driver_core.specs.Slot.{with_life}
 use Rattle.driver_core.specs.Slots.{SlotFor}
 use Rattle.uring_driver.specs.Lists.{EntryFor, IsAt, QueuedFor, Meets, CancelsMean, is_call, queued_of}
 use Rattle.ring_core.specs.Entry.{cancel_entry}
 use Rattle.uring_driver.proofs.Means.{Means}
-use Rattle.ring_core.proofs.Numbers.{same-or-not}
+use Rattle.machine.proofs.Numbers.{same-or-not}
 use Rattle.driver_core.proofs.Lists.{some, get-pushed}
 use Rattle.driver_core.proofs.Maps.{put-same, put-other}
 use Rattle.driver_core.proofs.Slots.{slots-replaced, slots-freed, other-left}

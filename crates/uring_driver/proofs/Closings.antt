@@ -8,8 +8,8 @@ use Rattle.std.specs.FinMap.{get, insert, remove, len, empty, get-empty, len-emp
 use Rattle.handle_core.specs.declared.table.Holders.{Holders}
 use Rattle.handle_core.specs.Table.{Table, with_holders, without_handle, nobody, by_user, by_operation}
 use Rattle.handle_core.proofs.Kept.{held-with, held-without}
-use Rattle.ring_core.specs.declared.entry.TheConstants.{MOST_HANDLES}
-use Rattle.ring_core.proofs.Numbers.{same-or-not, some-of, none-of}
+use Rattle.machine.specs.declared.world.TheConstants.{MOST_HANDLES}
+use Rattle.machine.proofs.Numbers.{same-or-not, some-of, none-of}
 use Rattle.driver_core.proofs.Maps.{put-same, put-other, gone-same, gone-other, len-put, len-new, len-gone, len-some, above}
 use Rattle.uring_driver.specs.Making.{maker_ended}
 use Rattle.uring_driver.specs.Holding.{Holding, no_holding, is_held, closes, knows, places, IsKept}

@@ -4,10 +4,10 @@ use Rattle.std.specs.Prelude.{not, ◌||◌}
 use Rattle.std.specs.Ordering.{nat_cmp}
 use Rattle.std.specs.FinMap.{FinMap, get}
 use Rattle.std.proofs.lemmas.List.{length-map}
-use Rattle.ring_core.specs.declared.entry.Completion.{Completion}
-use Rattle.ring_core.specs.Effect.{made_by}
+use Rattle.machine.specs.declared.completion.Completion.{Completion}
+use Rattle.machine.specs.Effect.{made_by}
 use Rattle.ring_core.specs.Entry.{close_entry}
-use Rattle.ring_core.specs.Ranks.{one_if}
+use Rattle.machine.specs.Lists.{one_if}
 use Rattle.ring_core.specs.Ring.{RingView}
 use Rattle.driver_core.specs.declared.slot.Slot.{Slot}
 use Rattle.driver_core.specs.Holds.{is_maker, is_dropped, dropped_in}

@@ -1,18 +1,18 @@
 -- An operation leaves, and with it the handles that it holds: its driver stands for the ledger that it left.
 use Rattle.std.proofs.Common.{◌≡◌, ◌∙◌, ℕ, ◌+◌, ◌<◌, ◌≤◌, Bool, true, false, List, length, map, Some, sym, ap, arith, IsTrue}
 use Rattle.rent_buf.specs.Buffer.{Buffer}
-use Rattle.ring_core.specs.declared.entry.TheConstants.{MOST_HANDLES}
-use Rattle.ring_core.specs.declared.ledger.Event.{Event}
-use Rattle.ring_core.specs.declared.ledger.Reply.{Reply}
+use Rattle.machine.specs.declared.world.TheConstants.{MOST_HANDLES}
+use Rattle.machine.specs.declared.ledger.Event.{Event}
+use Rattle.machine.specs.declared.ledger.Reply.{Reply}
 use Rattle.ring_core.specs.Ring.{RingView}
 use Rattle.ring_core.specs.Entry.{close_entry}
-use Rattle.ring_core.specs.Lists.{has_number, numbers_where}
-use Rattle.ring_core.specs.Ledger.{Ledger, is_owned}
-use Rattle.ring_core.specs.Queue.{with_gone, became_unheld, leave}
-use Rattle.ring_core.specs.Step.{step}
-use Rattle.ring_core.specs.Closes.{is_closing}
-use Rattle.ring_core.proofs.Holders.{AreLive}
-use Rattle.ring_core.proofs.Grouping.{may_group}
+use Rattle.machine.specs.Lists.{has_number, numbers_where}
+use Rattle.machine.specs.Ledger.{Ledger, is_owned}
+use Rattle.machine.specs.Queue.{with_gone, became_unheld, leave}
+use Rattle.machine.specs.Step.{step}
+use Rattle.machine.specs.Closes.{is_closing}
+use Rattle.machine.proofs.Holders.{AreLive}
+use Rattle.machine.proofs.Grouping.{may_group}
 use Rattle.driver_core.specs.declared.op.Op.{Op}
 use Rattle.driver_core.specs.Holds.{HoldersStand}
 use Rattle.driver_core.specs.Slot.{number_at}

@@ -9,17 +9,17 @@ use Rattle.op_slots.specs.declared.lifecycle.AfterDrop.TheVariants.{Left}
 use Rattle.op_slots.specs.declared.lifecycle.Lifecycle.TheVariants.{Completed}
 use Rattle.op_slots.specs.Lifecycle.{dropped, after_drop}
 use Rattle.ring_core.specs.Ring.{RingView}
-use Rattle.ring_core.specs.Lists.{amended, numbers_where}
-use Rattle.ring_core.specs.Closes.{made_at}
-use Rattle.ring_core.specs.Request.{named}
-use Rattle.ring_core.specs.declared.request.Outcome.{Outcome}
-use Rattle.ring_core.specs.declared.ledger.Event.TheVariants.{Drop, Cancel as Asks}
-use Rattle.ring_core.specs.declared.ledger.Reply.TheVariants.{Dropped, Asked}
-use Rattle.ring_core.specs.Ledger.{Ledger, Cancel, Operation, Place, InQueue, InFlight, InDone}
-use Rattle.ring_core.specs.Ledger.{Reaped, Gone, is_live, is_kept, is_owned, with_made}
-use Rattle.ring_core.specs.Queue.{with_op, with_gone, at_place, push}
-use Rattle.ring_core.specs.Step.{with_drop}
-use Rattle.ring_core.proofs.Amended.{get-amended-same, length-amended}
+use Rattle.machine.specs.Lists.{amended, numbers_where}
+use Rattle.machine.specs.Closes.{made_at}
+use Rattle.machine.specs.Request.{named}
+use Rattle.machine.specs.declared.request.Outcome.{Outcome}
+use Rattle.machine.specs.declared.ledger.Event.TheVariants.{Drop, Cancel as Asks}
+use Rattle.machine.specs.declared.ledger.Reply.TheVariants.{Dropped, Asked}
+use Rattle.machine.specs.Ledger.{Ledger, Cancel, Operation, Place, InQueue, InFlight, InDone}
+use Rattle.machine.specs.Ledger.{Reaped, Gone, is_live, is_kept, is_owned, with_made}
+use Rattle.machine.specs.Queue.{with_op, with_gone, at_place, push}
+use Rattle.machine.specs.Step.{with_drop}
+use Rattle.machine.proofs.Amended.{get-amended-same, length-amended}
 use Rattle.driver_core.specs.declared.slot.Slot.{Slot}
 use Rattle.uring_driver.specs.declared.uring.IoUringDriver.{IoUringDriver}
 use Rattle.uring_driver.specs.Uring.{room_in}
@@ -50,12 +50,12 @@ use Rattle.uring_driver.proofs.Answering.{LeavesGroup, lawful-of, alone-of, fits
 use Rattle.uring_driver.proofs.Lefts.{owned-push}
 use Rattle.uring_driver.proofs.Leaving.{TakesParts}
 use Rattle.uring_driver.proofs.Departing.{Departs, stands-departs}
-use Rattle.ring_core.proofs.Taken.{length-make_room}
-use Rattle.ring_core.proofs.Taking.{in_queue}
-use Rattle.ring_core.proofs.Turning.{live-gone}
-use Rattle.ring_core.proofs.Lawful.{listed-live, listed-unasked}
-use Rattle.ring_core.proofs.Staying.{stays-push}
-use Rattle.ring_core.proofs.Holders.{AreLive, live-changed}
+use Rattle.machine.proofs.Taken.{length-make_room}
+use Rattle.machine.proofs.Taking.{in_queue}
+use Rattle.machine.proofs.Turning.{live-gone}
+use Rattle.machine.proofs.Lawful.{listed-live, listed-unasked}
+use Rattle.machine.proofs.Staying.{stays-push}
+use Rattle.machine.proofs.Holders.{AreLive, live-changed}
 use Rattle.driver_core.proofs.Polling.{ignored-left}
 
 -- An operation whose slot is left isn't reaped.

@@ -7,9 +7,9 @@ use Rattle.op_slots.specs.declared.lifecycle.AfterDrop.TheVariants.{Left, Free}
 use Rattle.op_slots.specs.Lifecycle.{after_drop}
 use Rattle.ring_core.specs.Entry.{cancel_entry}
 use Rattle.ring_core.specs.Ring.{RingView}
-use Rattle.ring_core.specs.declared.ledger.Event.TheVariants.{Drop, Cancel as Asks}
-use Rattle.ring_core.specs.declared.ledger.Reply.TheVariants.{Dropped, Asked}
-use Rattle.ring_core.specs.Ledger.{Ledger}
+use Rattle.machine.specs.declared.ledger.Event.TheVariants.{Drop, Cancel as Asks}
+use Rattle.machine.specs.declared.ledger.Reply.TheVariants.{Dropped, Asked}
+use Rattle.machine.specs.Ledger.{Ledger}
 use Rattle.driver_core.specs.declared.slot.Slot.{Slot}
 use Rattle.driver_core.specs.declared.op.Op.{Op}
 use Rattle.driver_core.specs.Holds.{held_in}
@@ -22,7 +22,7 @@ use Rattle.uring_driver.specs.Submissions.{with_spare, pending_ring, Posts, Pend
 use Rattle.driver_core.specs.Slot.{with_life, number_at, serial_of, is_flying, DropsAt}
 use Rattle.op_slots.specs.declared.lifecycle.Lifecycle.{Lifecycle}
 use Rattle.op_slots.specs.declared.lifecycle.Lifecycle.TheVariants.{Submitted, Waiting, Ignored, Completed}
-use Rattle.ring_core.specs.declared.request.Outcome.{Outcome}
+use Rattle.machine.specs.declared.request.Outcome.{Outcome}
 use Rattle.uring_driver.specs.Holding.{places}
 use Rattle.uring_driver.specs.State.{IsSound}
 use Rattle.uring_driver.specs.Dropped.{DropsOp, DropsSlotOf}

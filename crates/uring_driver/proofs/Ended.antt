@@ -7,9 +7,9 @@ use Rattle.std.proofs.lemmas.Bool.Decides.{nat_tests}
 use Rattle.std.specs.FinMap.{get, insert, len}
 use Rattle.handle_core.specs.declared.table.Holders.{Holders}
 use Rattle.handle_core.specs.Table.{Table, AreHeld, holders_at, with_holders, nobody, by_operation}
-use Rattle.ring_core.specs.declared.entry.TheConstants.{MOST_HANDLES}
-use Rattle.ring_core.specs.Ranks.{one_if}
-use Rattle.ring_core.proofs.Numbers.{same-or-not, equal-other}
+use Rattle.machine.specs.declared.world.TheConstants.{MOST_HANDLES}
+use Rattle.machine.specs.Lists.{one_if}
+use Rattle.machine.proofs.Numbers.{same-or-not, equal-other}
 use Rattle.driver_core.specs.Holds.{is_nobody, without_ops, unheld_by, CanLeave}
 use Rattle.driver_core.proofs.Distinct.{equal-is}
 use Rattle.driver_core.proofs.Holds.{nobody-is, with-same, with-other, len-left}

@@ -7,7 +7,7 @@ use Rattle.std.specs.Prelude.{◌||◌, IsTrue, nat_lt, take, drop}
 use Rattle.std.proofs.lemmas.List.{take-append-drop}
 use Rattle.std.specs.Ordering.{nat_cmp}
 use Rattle.std.specs.FinMap.{FinMap}
-use Rattle.ring_core.specs.declared.entry.Completion.{Completion}
+use Rattle.machine.specs.declared.completion.Completion.{Completion}
 use Rattle.ring_core.specs.Ring.{RingView}
 use Rattle.driver_core.specs.declared.op.Stop.TheVariants.{BadCompletion}
 use Rattle.driver_core.specs.declared.op.Turned.{Turned}

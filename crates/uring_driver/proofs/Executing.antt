@@ -7,20 +7,21 @@ use Rattle.std.specs.FinMap.{FinMap, get, insert}
 use Rattle.rent_buf.specs.Buffer.{Buffer}
 use Rattle.rent_buf.specs.Parts.{Parts}
 use Rattle.ring_core.specs.Ring.{RingView}
-use Rattle.ring_core.specs.Lists.{amended}
+use Rattle.machine.specs.Lists.{amended}
 use Rattle.ring_core.specs.MemRing.{IsFinished, body_effect, completion_of}
-use Rattle.ring_core.specs.Outcome.{is_allowed}
-use Rattle.ring_core.specs.Effect.{Effect, effect, made_by}
-use Rattle.ring_core.specs.Payloads.{comes, body_comes, StoresIf}
-use Rattle.ring_core.specs.Request.{call_of, sent_of, plain_request, room_of, held, held_of, held_after, IsHolding}
-use Rattle.ring_core.specs.declared.entry.Completion.{Completion}
-use Rattle.ring_core.specs.declared.request.Request.{Request}
-use Rattle.ring_core.specs.declared.request.Told.{Told}
-use Rattle.ring_core.specs.declared.request.Outcome.{Outcome}
-use Rattle.ring_core.specs.Ledger.{Ledger, Operation, InFlight, InDone, Op, is_live, is_kept}
-use Rattle.ring_core.specs.Turn.{with_result, with_effect, made_owners, complete_at}
-use Rattle.ring_core.proofs.Amended.{get-amended-same}
-use Rattle.ring_core.proofs.Requests.{holding-own, held-comes, held-stays, got-fits}
+use Rattle.machine.specs.Outcome.{is_allowed}
+use Rattle.machine.specs.Effect.{Effect, effect, made_by}
+use Rattle.machine.specs.Payloads.{comes, StoresIf}
+use Rattle.ring_core.specs.Bodies.{body_comes}
+use Rattle.machine.specs.Request.{call_of, sent_of, plain_request, room_of, held, held_of, held_after, IsHolding}
+use Rattle.machine.specs.declared.completion.Completion.{Completion}
+use Rattle.machine.specs.declared.request.Request.{Request}
+use Rattle.machine.specs.declared.request.Told.{Told}
+use Rattle.machine.specs.declared.request.Outcome.{Outcome}
+use Rattle.machine.specs.Ledger.{Ledger, Operation, InFlight, InDone, Op, is_live, is_kept}
+use Rattle.machine.specs.Turn.{with_result, with_effect, made_owners, complete_at}
+use Rattle.machine.proofs.Amended.{get-amended-same}
+use Rattle.machine.proofs.Requests.{holding-own, held-comes, held-stays, got-fits}
 use Rattle.driver_core.specs.declared.slot.Slot.{Slot}
 use Rattle.driver_core.specs.Ops.{Ops}
 use Rattle.driver_core.specs.Slot.{KeepsNumbers}

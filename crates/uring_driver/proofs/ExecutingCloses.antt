@@ -4,24 +4,25 @@ use Rattle.std.specs.Prelude.{slice_get, is_some, if◌then◌else◌}
 use Rattle.std.specs.Ordering.{nat_cmp}
 use Rattle.std.specs.FinMap.{FinMap}
 use Rattle.rent_buf.specs.Buffer.{Buffer}
-use Rattle.ring_core.specs.declared.entry.TheConstants.{MOST_HANDLES}
+use Rattle.machine.specs.declared.world.TheConstants.{MOST_HANDLES}
 use Rattle.ring_core.specs.Ring.{RingView}
 use Rattle.ring_core.specs.Entry.{target, close_entry}
 use Rattle.ring_core.specs.declared.entry.Target.TheVariants.{Handle}
 use Rattle.ring_core.proofs.Targets.{target-close}
-use Rattle.ring_core.specs.Effect.{close_effect}
+use Rattle.machine.specs.Effect.{close_effect}
 use Rattle.ring_core.specs.MemRing.{IsFinished, body_effect, is_allowed_body, is_bound}
-use Rattle.ring_core.specs.Outcome.{may_close}
-use Rattle.ring_core.specs.Payloads.{StoresIf, body_comes}
+use Rattle.machine.specs.Outcome.{may_close}
+use Rattle.machine.specs.Payloads.{StoresIf}
+use Rattle.ring_core.specs.Bodies.{body_comes}
 use Rattle.ring_core.specs.declared.entry.Body.TheVariants.{Close as Closes}
 use Rattle.ring_core.specs.declared.entry.Flight.{Flight}
-use Rattle.ring_core.specs.declared.entry.Completion.{Completion}
-use Rattle.ring_core.specs.declared.request.Told.{Told}
-use Rattle.ring_core.specs.declared.request.Told.TheVariants.{Count, Fail}
-use Rattle.ring_core.specs.declared.world.HandleState.{HandleState}
-use Rattle.ring_core.specs.Ledger.{Ledger, Operation, Item, Op}
-use Rattle.ring_core.specs.Turn.{complete_at}
-use Rattle.ring_core.proofs.Behind.{awaited, AreBehind, waiting_front, behind-drop, behind-after}
+use Rattle.machine.specs.declared.completion.Completion.{Completion}
+use Rattle.machine.specs.declared.request.Told.{Told}
+use Rattle.machine.specs.declared.request.Told.TheVariants.{Count, Fail}
+use Rattle.machine.specs.declared.world.HandleState.{HandleState}
+use Rattle.machine.specs.Ledger.{Ledger, Operation, Item, Op}
+use Rattle.machine.specs.Turn.{complete_at}
+use Rattle.machine.proofs.Behind.{awaited, AreBehind, waiting_front, behind-drop, behind-after}
 use Rattle.driver_core.specs.declared.slot.Slot.{Slot}
 use Rattle.uring_driver.specs.Lists.{FlightFor, DoneFor, names_slot, item_in, done_items_in}
 use Rattle.uring_driver.proofs.Means.{Means}

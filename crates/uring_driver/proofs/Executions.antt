@@ -5,36 +5,36 @@ use Rattle.std.specs.FinMap.{get}
 use Rattle.rent_buf.specs.Buffer.{Buffer}
 use Rattle.ring_core.specs.Ring.{RingView}
 use Rattle.ring_core.specs.MemRing.{IsFinished, IsExecuted, body_effect, completion_of, finished}
-use Rattle.ring_core.specs.Payloads.{body_comes}
+use Rattle.ring_core.specs.Bodies.{body_comes}
 use Rattle.ring_core.specs.Entry.{target}
-use Rattle.ring_core.specs.Request.{call_of, sent_of, shown_by, plain_request}
-use Rattle.ring_core.specs.Effect.{effect}
+use Rattle.machine.specs.Request.{call_of, sent_of, shown_by, plain_request}
+use Rattle.machine.specs.Effect.{effect}
 use Rattle.ring_core.specs.declared.entry.Body.{Body}
 use Rattle.ring_core.specs.declared.entry.Body.TheVariants.{Call as Calls, Cancel as Cancels, Close as Closes}
 use Rattle.ring_core.specs.declared.entry.Entry.{Entry}
-use Rattle.ring_core.specs.declared.entry.TheConstants.{MOST_HANDLES}
-use Rattle.ring_core.specs.declared.entry.Completion.{Completion}
-use Rattle.ring_core.specs.declared.request.Told.{Told}
-use Rattle.ring_core.specs.declared.ledger.Event.TheVariants.{Exec}
-use Rattle.ring_core.specs.declared.ledger.Reply.TheVariants.{ExecutedOp, ExecutedClose}
-use Rattle.ring_core.specs.declared.ledger.Reply.{Reply}
-use Rattle.ring_core.specs.Lists.{numbers_where, passes}
-use Rattle.ring_core.specs.Ledger.{Ledger, Operation, Item, Op, is_kept, is_owned}
-use Rattle.ring_core.specs.Refusal.{allowed, waits}
-use Rattle.ring_core.specs.Step.{step}
+use Rattle.machine.specs.declared.world.TheConstants.{MOST_HANDLES}
+use Rattle.machine.specs.declared.completion.Completion.{Completion}
+use Rattle.machine.specs.declared.request.Told.{Told}
+use Rattle.machine.specs.declared.ledger.Event.TheVariants.{Exec}
+use Rattle.machine.specs.declared.ledger.Reply.TheVariants.{ExecutedOp, ExecutedClose}
+use Rattle.machine.specs.declared.ledger.Reply.{Reply}
+use Rattle.machine.specs.Lists.{numbers_where, passes}
+use Rattle.machine.specs.Ledger.{Ledger, Operation, Item, Op, is_kept, is_owned}
+use Rattle.machine.specs.Refusal.{allowed, waits}
+use Rattle.machine.specs.Step.{step}
 use Rattle.ring_core.proofs.Targets.{target-slot}
-use Rattle.ring_core.specs.Turn.{effect_of, with_result, with_effect, exec_op, complete_at, released}
-use Rattle.ring_core.proofs.Taking.{Listed}
-use Rattle.ring_core.proofs.Lawful.{lawful-executed}
-use Rattle.ring_core.proofs.Releasing.{released-beside, released-count}
-use Rattle.ring_core.proofs.Parting.{Parted, parted-executed}
-use Rattle.ring_core.specs.Run.{ledger}
-use Rattle.ring_core.proofs.Amended.{length-amended}
+use Rattle.machine.specs.Turn.{effect_of, with_result, with_effect, exec_op, complete_at, released}
+use Rattle.machine.proofs.Taking.{Listed}
+use Rattle.machine.proofs.Lawful.{lawful-executed}
+use Rattle.machine.proofs.Releasing.{released-beside, released-count}
+use Rattle.machine.proofs.Parting.{Parted, parted-executed}
+use Rattle.machine.specs.Run.{ledger}
+use Rattle.machine.proofs.Amended.{length-amended}
 use Rattle.driver_core.specs.Groups.{GroupsStand}
 use Rattle.driver_core.specs.Slots.{is_early}
 use Rattle.driver_core.specs.Slot.{shown_in, number_at, KeepsNumbers}
 use Rattle.driver_core.proofs.Grouping.{groups-kept}
-use Rattle.ring_core.proofs.Grouped.{groups-step}
+use Rattle.machine.proofs.Grouped.{groups-step}
 use Rattle.driver_core.specs.Operations.{offered, StoresAt}
 use Rattle.uring_driver.specs.declared.uring.IoUringDriver.{IoUringDriver}
 use Rattle.uring_driver.specs.Uring.{ring_in, due_in, room_in, whole_ring}

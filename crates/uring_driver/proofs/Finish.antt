@@ -5,7 +5,7 @@ use Rattle.std.specs.Cmp.{nat_cmp_total}
 use Rattle.std.specs.Ordering.{nat_cmp}
 use Rattle.std.specs.FinMap.{get, len, empty, empty_of_len, get-empty, len-empty, same_map, nat_cmp-IsAntisymmetric}
 use Rattle.handle_core.specs.declared.table.Holders.{Holders}
-use Rattle.ring_core.proofs.Numbers.{none-of}
+use Rattle.machine.proofs.Numbers.{none-of}
 use Rattle.uring_driver.specs.Holding.{Holding, closes}
 
 -- No handle is closing exactly where the table of closes is empty.

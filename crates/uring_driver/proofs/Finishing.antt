@@ -11,14 +11,14 @@ use Rattle.ring_core.specs.Entry.{target}
 use Rattle.ring_core.specs.MemRing.{completion_of}
 use Rattle.ring_core.specs.declared.entry.Entry.{Entry}
 use Rattle.ring_core.specs.declared.entry.Flight.{Flight}
-use Rattle.ring_core.specs.declared.entry.Completion.{Completion}
+use Rattle.machine.specs.declared.completion.Completion.{Completion}
 use Rattle.ring_core.specs.declared.entry.Target.TheVariants.{Slot as Keyed}
-use Rattle.ring_core.specs.declared.request.Outcome.{Outcome}
-use Rattle.ring_core.specs.declared.world.HandleState.{HandleState}
-use Rattle.ring_core.specs.Lists.{amended}
-use Rattle.ring_core.specs.Ledger.{Ledger, Operation, Owner, Place, InQueue, InFlight, InDone, Item, Op}
-use Rattle.ring_core.specs.Turn.{complete_at}
-use Rattle.ring_core.proofs.Amended.{get-amended-same, get-amended-other}
+use Rattle.machine.specs.declared.request.Outcome.{Outcome}
+use Rattle.machine.specs.declared.world.HandleState.{HandleState}
+use Rattle.machine.specs.Lists.{amended}
+use Rattle.machine.specs.Ledger.{Ledger, Operation, Owner, Place, InQueue, InFlight, InDone, Item, Op}
+use Rattle.machine.specs.Turn.{complete_at}
+use Rattle.machine.proofs.Amended.{get-amended-same, get-amended-other}
 use Rattle.ring_core.proofs.Targets.{target-slot}
 use Rattle.driver_core.specs.declared.slot.Slot.{Slot}
 use Rattle.driver_core.specs.Slots.{SlotsStand}

@@ -6,14 +6,15 @@ use Rattle.std.specs.FinMap.{FinMap, get}
 use Rattle.rent_buf.specs.Buffer.{Buffer}
 use Rattle.ring_core.specs.Ring.{RingView}
 use Rattle.ring_core.specs.MemRing.{body_effect, is_allowed_body}
-use Rattle.ring_core.specs.Outcome.{is_allowed}
-use Rattle.ring_core.specs.Effect.{effect}
-use Rattle.ring_core.specs.Request.{call_of, sent_of, shown_by, plain_request, IsHolding}
+use Rattle.machine.specs.Outcome.{is_allowed}
+use Rattle.machine.specs.Effect.{effect}
+use Rattle.machine.specs.Request.{call_of, sent_of, shown_by, plain_request, IsHolding}
 use Rattle.ring_core.specs.declared.entry.Flight.{Flight}
-use Rattle.ring_core.specs.declared.request.Told.{Told}
-use Rattle.ring_core.specs.Ledger.{Ledger, Operation, InFlight, Item}
-use Rattle.ring_core.specs.Payloads.{comes, body_comes}
-use Rattle.ring_core.proofs.Requests.{holding-same, effect-shown}
+use Rattle.machine.specs.declared.request.Told.{Told}
+use Rattle.machine.specs.Ledger.{Ledger, Operation, InFlight, Item}
+use Rattle.machine.specs.Payloads.{comes}
+use Rattle.ring_core.specs.Bodies.{body_comes}
+use Rattle.machine.proofs.Requests.{holding-same, effect-shown}
 use Rattle.driver_core.specs.declared.slot.Slot.{Slot}
 use Rattle.driver_core.specs.Slots.{SlotFor, is_early, life_of}
 use Rattle.uring_driver.specs.Lists.{EntryFor, IsFlown, is_call, item_of}

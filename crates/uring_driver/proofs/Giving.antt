@@ -5,20 +5,20 @@ use Rattle.std.specs.Ordering.{nat_cmp}
 use Rattle.std.specs.FinMap.{FinMap, get, remove, len}
 use Rattle.rent_buf.specs.Buffer.{Buffer}
 use Rattle.handle_core.specs.Table.{holders_at, without_handle, nobody, by_user}
-use Rattle.ring_core.specs.declared.ledger.Event.TheVariants.{Give}
-use Rattle.ring_core.specs.declared.ledger.Reply.TheVariants.{Handle}
-use Rattle.ring_core.specs.declared.entry.TheConstants.{MOST_HANDLES}
-use Rattle.ring_core.specs.declared.world.HandleKind.{HandleKind}
-use Rattle.ring_core.specs.declared.world.HandleState.{HandleState}
+use Rattle.machine.specs.declared.ledger.Event.TheVariants.{Give}
+use Rattle.machine.specs.declared.ledger.Reply.TheVariants.{Handle}
+use Rattle.machine.specs.declared.world.TheConstants.{MOST_HANDLES}
+use Rattle.machine.specs.declared.world.HandleKind.{HandleKind}
+use Rattle.machine.specs.declared.world.HandleState.{HandleState}
 use Rattle.ring_core.specs.Lends.{with_world}
-use Rattle.ring_core.specs.Lists.{passes}
+use Rattle.machine.specs.Lists.{passes}
 use Rattle.ring_core.specs.Ring.{RingView}
-use Rattle.ring_core.specs.World.{fresh}
-use Rattle.ring_core.specs.Ledger.{Ledger, is_live, is_owned, user_holds}
-use Rattle.ring_core.specs.Step.{give_step, new_owner}
-use Rattle.ring_core.proofs.Amended.{joined-cases}
-use Rattle.ring_core.proofs.Appended.{get-append-end}
-use Rattle.ring_core.proofs.Numbers.{none-of}
+use Rattle.machine.specs.World.{fresh}
+use Rattle.machine.specs.Ledger.{Ledger, is_live, is_owned, user_holds}
+use Rattle.machine.specs.Step.{give_step, new_owner}
+use Rattle.machine.proofs.Amended.{joined-cases}
+use Rattle.machine.proofs.Appended.{get-append-end}
+use Rattle.machine.proofs.Numbers.{none-of}
 use Rattle.op_slots.proofs.Places.{map-absent}
 use Rattle.driver_core.specs.declared.slot.Slot.{Slot}
 use Rattle.driver_core.specs.Slots.{SlotsStand}

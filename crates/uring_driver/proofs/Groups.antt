@@ -12,16 +12,16 @@ use Rattle.std.specs.Result.{is_err}
 use Rattle.rent_buf.specs.Buffer.{Buffer}
 use Rattle.cancel_core.specs.Group.{group_at}
 use Rattle.ring_core.specs.declared.entry.Entry.{Entry}
-use Rattle.ring_core.specs.declared.ledger.Event.TheVariants.{NewCanceller, NewHandle, CancelAll}
-use Rattle.ring_core.specs.declared.ledger.Reply.TheVariants.{Canceller, CancelHandle, Cancels}
+use Rattle.machine.specs.declared.ledger.Event.TheVariants.{NewCanceller, NewHandle, CancelAll}
+use Rattle.machine.specs.declared.ledger.Reply.TheVariants.{Canceller, CancelHandle, Cancels}
 use Rattle.ring_core.specs.Entry.{cancel_entry}
-use Rattle.ring_core.specs.Ledger.{Ledger, Queued, Cancel, is_marked, members}
-use Rattle.ring_core.specs.Lists.{has_number}
-use Rattle.ring_core.specs.Queue.{push, push_each}
+use Rattle.machine.specs.Ledger.{Ledger, Queued, Cancel, is_marked, members}
+use Rattle.machine.specs.Lists.{has_number}
+use Rattle.machine.specs.Queue.{push, push_each}
 use Rattle.ring_core.specs.Ring.{RingView}
-use Rattle.ring_core.specs.Step.{new_canceller_step, new_handle_step, with_mark, cancel_all_step}
-use Rattle.ring_core.proofs.Leaving.{has-first, has-later}
-use Rattle.ring_core.proofs.Staying.{stays-length, stays-push_each}
+use Rattle.machine.specs.Step.{new_canceller_step, new_handle_step, with_mark, cancel_all_step}
+use Rattle.machine.proofs.Leaving.{has-first, has-later}
+use Rattle.machine.proofs.Staying.{stays-length, stays-push_each}
 use Rattle.driver_core.specs.declared.members.places.Place.{Place}
 use Rattle.driver_core.specs.declared.slot.Slot.{Slot}
 use Rattle.driver_core.specs.Answers.{CancellerFor, HandleFor, CancelsFor}

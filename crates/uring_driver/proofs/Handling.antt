@@ -11,23 +11,23 @@ use Rattle.handle_core.specs.declared.table.Holders.{Holders}
 use Rattle.handle_core.specs.declared.table.Released.{Released as Freed}
 use Rattle.handle_core.specs.declared.table.Released.TheVariants.{Held, Last}
 use Rattle.handle_core.specs.Table.{Table, holders_at, with_holders, nobody, by_user, with_user as held_more, without_user}
-use Rattle.ring_core.specs.declared.entry.TheConstants.{MOST_HANDLES}
-use Rattle.ring_core.specs.declared.ledger.Event.TheVariants.{Close}
-use Rattle.ring_core.specs.declared.ledger.Reply.TheVariants.{Released}
-use Rattle.ring_core.specs.Lists.{has_number}
+use Rattle.machine.specs.declared.world.TheConstants.{MOST_HANDLES}
+use Rattle.machine.specs.declared.ledger.Event.TheVariants.{Close}
+use Rattle.machine.specs.declared.ledger.Reply.TheVariants.{Released}
+use Rattle.machine.specs.Lists.{has_number}
 use Rattle.ring_core.specs.Ring.{RingView}
 use Rattle.ring_core.specs.Entry.{close_entry}
-use Rattle.ring_core.specs.Ledger.{Ledger, Queued, user_holds}
-use Rattle.ring_core.specs.Queue.{push, is_unheld}
-use Rattle.ring_core.specs.Step.{with_user, close_if}
-use Rattle.ring_core.specs.Closes.{close_count, MadeAlone}
-use Rattle.ring_core.proofs.Numbers.{same-or-not, some-of, none-of}
-use Rattle.ring_core.proofs.Closing.{count-push}
-use Rattle.ring_core.proofs.Holders.{AreLive}
-use Rattle.ring_core.proofs.Users.{user-with_user, user-with_user-other}
-use Rattle.ring_core.proofs.Lawful.{listed-live}
-use Rattle.ring_core.proofs.Staying.{stays-length, stays-push}
-use Rattle.ring_core.proofs.Stepping.{held-there}
+use Rattle.machine.specs.Ledger.{Ledger, Queued, user_holds}
+use Rattle.machine.specs.Queue.{push, is_unheld}
+use Rattle.machine.specs.Step.{with_user, close_if}
+use Rattle.machine.specs.Closes.{close_count, MadeAlone}
+use Rattle.machine.proofs.Numbers.{same-or-not, some-of, none-of}
+use Rattle.machine.proofs.Closing.{count-push}
+use Rattle.machine.proofs.Holders.{AreLive}
+use Rattle.machine.proofs.Users.{user-with_user, user-with_user-other}
+use Rattle.machine.proofs.Lawful.{listed-live}
+use Rattle.machine.proofs.Staying.{stays-length, stays-push}
+use Rattle.machine.proofs.Stepping.{held-there}
 use Rattle.driver_core.specs.declared.slot.Slot.{Slot}
 use Rattle.driver_core.specs.Slot.{number_at}
 use Rattle.driver_core.specs.Holds.{is_nobody, settled, settle_if, seen_ops, AreMaking, HoldersStand}

@@ -8,7 +8,7 @@ use Rattle.ring_core.specs.Ring.{RingView}
 use Rattle.ring_core.specs.declared.entry.Body.TheVariants.{Cancel as Cancels}
 use Rattle.ring_core.specs.declared.entry.Entry.{Entry}
 use Rattle.ring_core.specs.declared.entry.Flight.{Flight}
-use Rattle.ring_core.specs.Ledger.{Ledger}
+use Rattle.machine.specs.Ledger.{Ledger}
 use Rattle.driver_core.specs.declared.slot.Slot.{Slot}
 use Rattle.uring_driver.specs.Lists.{Once, Meets, CancelsMean, ListsStand, is_call}
 use Rattle.uring_driver.proofs.Means.{Means}

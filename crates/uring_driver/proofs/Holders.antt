@@ -8,28 +8,28 @@ use Rattle.rent_buf.specs.Buffer.{Buffer}
 use Rattle.rent_buf.specs.Parts.{Parts}
 use Rattle.handle_core.specs.declared.table.Holders.{Holders}
 use Rattle.handle_core.specs.Table.{holders_at, nobody}
-use Rattle.ring_core.specs.declared.world.HandleState.{HandleState}
+use Rattle.machine.specs.declared.world.HandleState.{HandleState}
 use Rattle.ring_core.specs.declared.entry.Body.{Body}
 use Rattle.ring_core.specs.declared.entry.Body.TheVariants.{Call as Calls, Cancel as Cancels, Close as Closes}
 use Rattle.ring_core.specs.declared.entry.Entry.{Entry}
 use Rattle.ring_core.specs.Ring.{RingView}
-use Rattle.ring_core.specs.declared.request.Request.{Request}
-use Rattle.ring_core.specs.declared.request.Told.{Told}
-use Rattle.ring_core.specs.Request.{named}
-use Rattle.ring_core.specs.Effect.{Effect, made_by}
-use Rattle.ring_core.specs.Lists.{passes}
-use Rattle.ring_core.specs.Ledger.{Ledger, Operation, Owner, Queued, Req, Item, Op, InQueue, InDone, is_kept, user_holds}
-use Rattle.ring_core.specs.Ledger.{new_operation, empty}
-use Rattle.ring_core.specs.Queue.{make_room, append, push}
-use Rattle.ring_core.specs.Refusal.{lacks_handle}
-use Rattle.ring_core.specs.Turn.{with_effect, with_result, made_owners, complete_at}
-use Rattle.ring_core.specs.Step.{with_new_op}
-use Rattle.ring_core.specs.Closes.{closes_queued, close_count}
-use Rattle.ring_core.proofs.Numbers.{and-left, and-right}
-use Rattle.ring_core.proofs.Occurring.{closes_queued-append}
-use Rattle.ring_core.proofs.Amended.{joined-cases}
-use Rattle.ring_core.proofs.Holders.{AreLive}
-use Rattle.ring_core.proofs.Closing.{count-push, count-make_room, count-complete_at}
+use Rattle.machine.specs.declared.request.Request.{Request}
+use Rattle.machine.specs.declared.request.Told.{Told}
+use Rattle.machine.specs.Request.{named}
+use Rattle.machine.specs.Effect.{Effect, made_by}
+use Rattle.machine.specs.Lists.{passes}
+use Rattle.machine.specs.Ledger.{Ledger, Operation, Owner, Queued, Req, Item, Op, InQueue, InDone, is_kept, user_holds}
+use Rattle.machine.specs.Ledger.{new_operation, empty}
+use Rattle.machine.specs.Queue.{make_room, append, push}
+use Rattle.machine.specs.Refusal.{lacks_handle}
+use Rattle.machine.specs.Turn.{with_effect, with_result, made_owners, complete_at}
+use Rattle.machine.specs.Step.{with_new_op}
+use Rattle.machine.specs.Closes.{closes_queued, close_count}
+use Rattle.machine.proofs.Numbers.{and-left, and-right}
+use Rattle.machine.proofs.Occurring.{closes_queued-append}
+use Rattle.machine.proofs.Amended.{joined-cases}
+use Rattle.machine.proofs.Holders.{AreLive}
+use Rattle.machine.proofs.Closing.{count-push, count-make_room, count-complete_at}
 use Rattle.driver_core.specs.Slots.{is_early}
 use Rattle.driver_core.specs.declared.slot.Slot.{Slot}
 use Rattle.driver_core.proofs.Lists.{some, map-get}

@@ -7,15 +7,15 @@ use Rattle.std.specs.FinMap.{FinMap, get, insert, remove}
 use Rattle.handle_core.specs.Table.{holders_at, nobody}
 use Rattle.op_slots.specs.declared.lifecycle.Lifecycle.{Lifecycle}
 use Rattle.op_slots.specs.declared.lifecycle.Lifecycle.TheVariants.{Submitted, Waiting, Ignored, Completed}
-use Rattle.ring_core.specs.declared.entry.Completion.{Completion}
-use Rattle.ring_core.specs.declared.request.Outcome.{Outcome}
-use Rattle.ring_core.specs.Effect.{made_by}
-use Rattle.ring_core.specs.Lists.{has_number}
-use Rattle.ring_core.specs.Ranks.{one_if}
-use Rattle.ring_core.specs.Request.{named, makes}
-use Rattle.ring_core.specs.Ledger.{with_made}
-use Rattle.ring_core.proofs.Numbers.{same-or-not, equal-other}
-use Rattle.ring_core.proofs.Leaving.{named-ascends, holds-named}
+use Rattle.machine.specs.declared.completion.Completion.{Completion}
+use Rattle.machine.specs.declared.request.Outcome.{Outcome}
+use Rattle.machine.specs.Effect.{made_by}
+use Rattle.machine.specs.Lists.{has_number}
+use Rattle.machine.specs.Lists.{one_if}
+use Rattle.machine.specs.Request.{named, makes}
+use Rattle.machine.specs.Ledger.{with_made}
+use Rattle.machine.proofs.Numbers.{same-or-not, equal-other}
+use Rattle.machine.proofs.Leaving.{named-ascends, holds-named}
 use Rattle.driver_core.specs.declared.slot.Slot.{Slot}
 use Rattle.driver_core.specs.Slot.{with_life, is_flying, is_owned_life, flies_in, slots_completed, slots_if, slots_after}
 use Rattle.driver_core.specs.Ops.{AreNumbered}

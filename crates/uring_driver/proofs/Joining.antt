@@ -6,12 +6,12 @@ use Rattle.std.specs.FinMap.{FinMap, get, insert, len}
 use Rattle.handle_core.specs.Table.{nobody}
 use Rattle.rent_buf.specs.Parts.{Parts}
 use Rattle.op_slots.specs.declared.lifecycle.Lifecycle.TheVariants.{Submitted as Fresh}
-use Rattle.ring_core.specs.Lists.{has_number}
-use Rattle.ring_core.specs.Ranks.{one_if}
-use Rattle.ring_core.specs.Request.{named, makes}
-use Rattle.ring_core.specs.declared.request.Request.{Request}
-use Rattle.ring_core.proofs.Leaving.{named-ascends, has-other}
-use Rattle.ring_core.proofs.Numbers.{and-left, and-right, same-or-not, some-of}
+use Rattle.machine.specs.Lists.{has_number}
+use Rattle.machine.specs.Lists.{one_if}
+use Rattle.machine.specs.Request.{named, makes}
+use Rattle.machine.specs.declared.request.Request.{Request}
+use Rattle.machine.proofs.Leaving.{named-ascends, has-other}
+use Rattle.machine.proofs.Numbers.{and-left, and-right, same-or-not, some-of}
 use Rattle.driver_core.specs.declared.operations.TheConstants.{MOST_GIVEN}
 use Rattle.driver_core.specs.Holds.{CanJoin}
 use Rattle.driver_core.specs.declared.slot.Slot.{Slot}

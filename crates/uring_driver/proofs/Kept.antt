@@ -7,20 +7,21 @@ use Rattle.std.specs.Ordering.{nat_cmp}
 use Rattle.std.specs.FinMap.{FinMap, get}
 use Rattle.rent_buf.specs.Buffer.{Buffer}
 use Rattle.ring_core.specs.Ring.{RingView}
-use Rattle.ring_core.specs.Request.{call_of, plain_request}
+use Rattle.machine.specs.Request.{call_of, plain_request}
 use Rattle.ring_core.specs.declared.entry.Body.{Body}
 use Rattle.ring_core.specs.declared.entry.Body.TheVariants.{Call as Calls, Cancel as Cancels, Close as Closes}
 use Rattle.ring_core.specs.declared.entry.Entry.{Entry}
-use Rattle.ring_core.specs.declared.entry.Completion.{Completion}
+use Rattle.machine.specs.declared.completion.Completion.{Completion}
 use Rattle.ring_core.specs.declared.entry.Flight.{Flight}
 use Rattle.ring_core.specs.declared.entry.Target.{Target}
 use Rattle.ring_core.specs.declared.entry.Target.TheVariants.{Slot as Keyed, Handle, Reserved}
 use Rattle.ring_core.specs.Entry.{target, close_entry}
-use Rattle.ring_core.specs.Ledger.{Ledger, Op, Operation, Place, InQueue, InFlight, InDone}
+use Rattle.machine.specs.Ledger.{Ledger, Op, Operation, Place, InQueue, InFlight, InDone}
 use Rattle.driver_core.specs.declared.slot.Slot.{Slot}
 use Rattle.uring_driver.specs.Lists.{EntryFor, CompletionFor, IsAt, IsQueued, IsFlown, QueuedFor, FlightFor, DoneFor, ListsStand, is_call}
 use Rattle.uring_driver.specs.Lists.{names_slot, item_in, done_items_in, done_items_of}
-use Rattle.ring_core.specs.declared.entry.TheConstants.{CANCEL_WORD, FIRST_CLOSE, MOST_HANDLES}
+use Rattle.machine.specs.declared.world.TheConstants.{MOST_HANDLES}
+use Rattle.ring_core.specs.declared.entry.TheConstants.{CANCEL_WORD, FIRST_CLOSE}
 
 -- What a call in the queue is.
 pub call-queued : {B : Type 0} (buffer : B → Buffer) (slots : FinMap nat_cmp (Slot B)) (ops : List Operation) (e : Entry) (b : Body) →

@@ -7,19 +7,19 @@ use Rattle.std.specs.Ordering.{nat_cmp}
 use Rattle.std.specs.FinMap.{FinMap, get, remove}
 use Rattle.handle_core.specs.Table.{holders_at, handed}
 use Rattle.ring_core.specs.Entry.{close_entry}
-use Rattle.ring_core.specs.Lists.{has_number}
-use Rattle.ring_core.specs.Ranks.{one_if}
-use Rattle.ring_core.specs.Ledger.{with_made}
-use Rattle.ring_core.specs.Effect.{made_by}
-use Rattle.ring_core.specs.Request.{named}
+use Rattle.machine.specs.Lists.{has_number}
+use Rattle.machine.specs.Lists.{one_if}
+use Rattle.machine.specs.Ledger.{with_made}
+use Rattle.machine.specs.Effect.{made_by}
+use Rattle.machine.specs.Request.{named}
 use Rattle.ring_core.specs.Ring.{RingView}
-use Rattle.ring_core.proofs.Leaving.{holds-named}
+use Rattle.machine.proofs.Leaving.{holds-named}
 use Rattle.driver_core.specs.Holds.{without_ops, unheld_by, named_in, made_in, made_life, held_in, CanLeave}
 use Rattle.driver_core.specs.Slot.{is_flying, number_at, serial_of, PollsAt, DropsAt}
 use Rattle.op_slots.specs.Lifecycle.{polled}
 use Rattle.op_slots.specs.declared.lifecycle.AfterDrop.TheVariants.{Left, Free}
 use Rattle.op_slots.specs.declared.lifecycle.Lifecycle.TheVariants.{Ignored}
-use Rattle.ring_core.specs.declared.entry.TheConstants.{MOST_HANDLES}
+use Rattle.machine.specs.declared.world.TheConstants.{MOST_HANDLES}
 use Rattle.driver_core.specs.declared.op.Op.{Op}
 use Rattle.driver_core.specs.declared.op.Done.{Done}
 use Rattle.driver_core.specs.declared.slot.Slot.{Slot}

@@ -9,26 +9,26 @@ use Rattle.std.specs.Ordering.{nat_cmp}
 use Rattle.std.specs.FinMap.{FinMap, get, insert}
 use Rattle.handle_core.specs.Table.{Table, with_holders, by_operation}
 use Rattle.rent_buf.specs.Buffer.{Buffer}
-use Rattle.ring_core.specs.declared.entry.TheConstants.{MOST_HANDLES}
-use Rattle.ring_core.specs.Lists.{has_number, numbers_where}
-use Rattle.ring_core.specs.Ranks.{one_if}
+use Rattle.machine.specs.declared.world.TheConstants.{MOST_HANDLES}
+use Rattle.machine.specs.Lists.{has_number, numbers_where}
+use Rattle.machine.specs.Lists.{one_if}
 use Rattle.ring_core.specs.Entry.{close_entry}
 use Rattle.ring_core.specs.Ring.{RingView}
-use Rattle.ring_core.specs.Ledger.{Ledger, Operation, Queued, Req, Cancel, Place, InQueue, InFlight, InDone, Reaped, Gone}
-use Rattle.ring_core.specs.Ledger.{is_live, is_owned}
-use Rattle.ring_core.specs.Queue.{canceled_at, with_take, with_cancel, take_one, leader_behind, take_behind, take_all, push, push_each}
-use Rattle.ring_core.specs.Queue.{with_gone, leave, became_unheld}
-use Rattle.ring_core.specs.Closes.{close_count, closes_queued, is_closing}
-use Rattle.ring_core.proofs.Numbers.{same-or-not, equal-other}
-use Rattle.ring_core.proofs.Closing.{count-push_each}
-use Rattle.ring_core.proofs.Keeping.{or-false as or-left}
-use Rattle.ring_core.proofs.Holders.{AreLive, live-take_one, live-push_close}
-use Rattle.ring_core.proofs.Lawful.{Lawful, listed-live, listed-unasked}
-use Rattle.ring_core.proofs.Taking.{in_queue}
-use Rattle.ring_core.proofs.Turning.{live-gone}
+use Rattle.machine.specs.Ledger.{Ledger, Operation, Queued, Req, Cancel, Place, InQueue, InFlight, InDone, Reaped, Gone}
+use Rattle.machine.specs.Ledger.{is_live, is_owned}
+use Rattle.machine.specs.Queue.{canceled_at, with_take, with_cancel, take_one, leader_behind, take_behind, take_all, push, push_each}
+use Rattle.machine.specs.Queue.{with_gone, leave, became_unheld}
+use Rattle.machine.specs.Closes.{close_count, closes_queued, is_closing}
+use Rattle.machine.proofs.Numbers.{same-or-not, equal-other}
+use Rattle.machine.proofs.Closing.{count-push_each}
+use Rattle.machine.proofs.Numbers.{or-false as or-left}
+use Rattle.machine.proofs.Holders.{AreLive, live-take_one, live-push_close}
+use Rattle.machine.proofs.Lawful.{Lawful, listed-live, listed-unasked}
+use Rattle.machine.proofs.Taking.{in_queue}
+use Rattle.machine.proofs.Turning.{live-gone}
 use Rattle.ring_core.specs.declared.entry.Entry.{Entry}
-use Rattle.ring_core.proofs.Where.{where-kept}
-use Rattle.ring_core.proofs.Staying.{stays-length, stays-push_each}
+use Rattle.machine.proofs.Where.{where-kept}
+use Rattle.machine.proofs.Staying.{stays-length, stays-push_each}
 use Rattle.driver_core.specs.Holds.{HoldersStand}
 use Rattle.driver_core.proofs.Seen.{AreEarly, seen-push_closes}
 use Rattle.driver_core.proofs.Early.{early-gone, listed-early}

@@ -4,12 +4,12 @@ use Rattle.std.proofs.Common.{subst, arith, length, IsTrue, ◌≤◌}
 use Rattle.std.specs.Prelude.{◌||◌}
 use Rattle.std.proofs.lemmas.List.{map-append}
 use Rattle.handle_core.specs.Table.{Table, holders_at, with_holders, by_operation}
-use Rattle.ring_core.specs.declared.entry.TheConstants.{MOST_HANDLES}
+use Rattle.machine.specs.declared.world.TheConstants.{MOST_HANDLES}
 use Rattle.ring_core.specs.declared.entry.Entry.{Entry}
 use Rattle.ring_core.specs.Entry.{close_entry}
-use Rattle.ring_core.specs.Lists.{has_number}
+use Rattle.machine.specs.Lists.{has_number}
 use Rattle.ring_core.specs.Ring.{RingView}
-use Rattle.ring_core.proofs.Numbers.{equal-other}
+use Rattle.machine.proofs.Numbers.{equal-other}
 use Rattle.driver_core.specs.Holds.{is_nobody, left_holders, settled, front_if, without_ops, unheld_by, CanLeave}
 use Rattle.driver_core.proofs.Holds.{nobody-is, settled-other}
 use Rattle.uring_driver.specs.Holding.{Holding, closes, with_added, ops_left}

@@ -9,20 +9,20 @@ use Rattle.rent_buf.specs.Buffer.{Buffer}
 use Rattle.ring_core.specs.Ring.{RingView}
 use Rattle.ring_core.specs.Entry.{target}
 use Rattle.ring_core.specs.Bound.{unbound}
-use Rattle.ring_core.specs.Lists.{amended, passes}
+use Rattle.machine.specs.Lists.{amended, passes}
 use Rattle.ring_core.specs.declared.entry.Body.{Body}
 use Rattle.ring_core.specs.declared.entry.Body.TheVariants.{Call as Calls, Cancel as Cancels, Close as Closes}
 use Rattle.ring_core.specs.declared.entry.Entry.{Entry}
 use Rattle.ring_core.specs.declared.entry.Flight.{Flight}
-use Rattle.ring_core.specs.Ledger.{Ledger, Operation, Place, InDone, Item, Op, is_live}
-use Rattle.ring_core.specs.Turn.{without_wait, waits_on, unless_waits}
-use Rattle.ring_core.proofs.Numbers.{equal-other}
-use Rattle.ring_core.proofs.Amended.{changed-cases, there-before, map-amended}
-use Rattle.ring_core.proofs.Where.{where-map}
-use Rattle.ring_core.proofs.Occurring.{listed}
-use Rattle.ring_core.proofs.Releasing.{with_waits, unless-keeps, let_go}
-use Rattle.ring_core.proofs.Behind.{awaited, awaited_by, op_of, AreBehind, unless-awaits, listed-here}
-use Rattle.ring_core.proofs.Parting.{Parted}
+use Rattle.machine.specs.Ledger.{Ledger, Operation, Place, InDone, Item, Op, is_live}
+use Rattle.machine.specs.Turn.{without_wait, waits_on, unless_waits}
+use Rattle.machine.proofs.Numbers.{equal-other}
+use Rattle.machine.proofs.Amended.{changed-cases, there-before, map-amended}
+use Rattle.machine.proofs.Where.{where-map}
+use Rattle.machine.proofs.Occurring.{listed}
+use Rattle.machine.proofs.Releasing.{with_waits, unless-keeps, let_go}
+use Rattle.machine.proofs.Behind.{awaited, awaited_by, op_of, AreBehind, unless-awaits, listed-here}
+use Rattle.machine.proofs.Parting.{Parted}
 use Rattle.driver_core.specs.declared.slot.Slot.{Slot}
 use Rattle.driver_core.specs.Slots.{SlotFor, SlotsStand}
 use Rattle.driver_core.proofs.Lists.{some, get-map, map-get}

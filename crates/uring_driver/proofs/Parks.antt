@@ -2,7 +2,7 @@
 use Rattle.std.proofs.Common.{◌≡◌, ℕ, Bool, true, false, List, [], ◌∷◌, length, suc, Option, Some, None, refl, sym, ◌∙◌, ap, subst, arith}
 use Rattle.std.proofs.lemmas.Bool.Decides.{nat_tests}
 use Rattle.std.specs.Prelude.{is_some, nat_lt}
-use Rattle.ring_core.specs.declared.entry.Completion.{Completion}
+use Rattle.machine.specs.declared.completion.Completion.{Completion}
 use Rattle.ring_core.specs.Ring.{RingView}
 use Rattle.wake_core.specs.WakerList.{is_empty}
 use Rattle.wake_core.specs.declared.park.Woken.{Woken}

@@ -9,19 +9,19 @@ use Rattle.op_slots.specs.declared.lifecycle.Lifecycle.TheVariants.{Submitted, W
 use Rattle.op_slots.specs.declared.lifecycle.AfterPoll.TheVariants.{Pending as Waits}
 use Rattle.op_slots.specs.Lifecycle.{after_poll, polled}
 use Rattle.ring_core.specs.Ring.{RingView}
-use Rattle.ring_core.specs.Lists.{amended, numbers_where}
-use Rattle.ring_core.specs.Request.{named, plain_request, held_of, IsHolding}
-use Rattle.ring_core.specs.declared.request.Outcome.{Outcome}
-use Rattle.ring_core.specs.declared.ledger.Event.TheVariants.{Poll}
-use Rattle.ring_core.specs.declared.ledger.Reply.TheVariants.{Pending, Handed}
-use Rattle.ring_core.specs.Ledger.{Ledger, Operation, Place, InQueue, InFlight, InDone, Reaped, Gone, is_kept, is_owned, with_made}
-use Rattle.ring_core.specs.Queue.{with_op, with_gone, at_place, leave}
-use Rattle.ring_core.specs.Step.{with_task, with_user, handed_over}
-use Rattle.ring_core.specs.Effect.{made_by}
-use Rattle.ring_core.specs.Closes.{made_at}
-use Rattle.ring_core.proofs.Amended.{get-amended-same, length-amended}
+use Rattle.machine.specs.Lists.{amended, numbers_where}
+use Rattle.machine.specs.Request.{named, plain_request, held_of, IsHolding}
+use Rattle.machine.specs.declared.request.Outcome.{Outcome}
+use Rattle.machine.specs.declared.ledger.Event.TheVariants.{Poll}
+use Rattle.machine.specs.declared.ledger.Reply.TheVariants.{Pending, Handed}
+use Rattle.machine.specs.Ledger.{Ledger, Operation, Place, InQueue, InFlight, InDone, Reaped, Gone, is_kept, is_owned, with_made}
+use Rattle.machine.specs.Queue.{with_op, with_gone, at_place, leave}
+use Rattle.machine.specs.Step.{with_task, with_user, handed_over}
+use Rattle.machine.specs.Effect.{made_by}
+use Rattle.machine.specs.Closes.{made_at}
+use Rattle.machine.proofs.Amended.{get-amended-same, length-amended}
 use Rattle.driver_core.proofs.Seen.{SeenAlike, seen-op, made-waiting}
-use Rattle.ring_core.proofs.Taking.{in_queue}
+use Rattle.machine.proofs.Taking.{in_queue}
 use Rattle.driver_core.specs.declared.slot.Slot.{Slot}
 use Rattle.uring_driver.specs.declared.uring.IoUringDriver.{IoUringDriver}
 use Rattle.uring_driver.specs.Holding.{ops_left, places, with_added, HandlesStand}

@@ -7,7 +7,7 @@ use Rattle.std.proofs.lemmas.List.{map-append, take-append-drop}
 use Rattle.ring_core.specs.declared.entry.Body.{Body}
 use Rattle.ring_core.specs.declared.entry.Body.TheVariants.{Call as Calls, Cancel as Cancels, Close as Closes}
 use Rattle.ring_core.specs.declared.entry.Entry.{Entry}
-use Rattle.ring_core.specs.declared.entry.Completion.{Completion}
+use Rattle.machine.specs.declared.completion.Completion.{Completion}
 use Rattle.ring_core.specs.Entry.{close_entry}
 use Rattle.ring_core.specs.Ring.{RingView, IsTakenOff, entered, pushed, with_done, done_after_entry, done_after}
 use Rattle.uring_driver.specs.Pending.{Pending}

@@ -4,15 +4,15 @@ use Rattle.std.proofs.Common.{subst, arith}
 use Rattle.std.specs.Ordering.{nat_cmp}
 use Rattle.std.specs.FinMap.{FinMap, get}
 use Rattle.rent_buf.specs.Buffer.{Buffer}
-use Rattle.ring_core.specs.declared.entry.TheConstants.{MOST_HANDLES}
+use Rattle.machine.specs.declared.world.TheConstants.{MOST_HANDLES}
 use Rattle.ring_core.specs.Ring.{RingView, pushed}
 use Rattle.ring_core.specs.Entry.{cancel_entry, close_entry}
 use Rattle.ring_core.specs.declared.entry.Body.TheVariants.{Cancel as Cancels}
 use Rattle.ring_core.specs.declared.entry.Entry.{Entry}
-use Rattle.ring_core.specs.Lists.{has_number}
-use Rattle.ring_core.specs.Ledger.{Ledger, Queued, Cancel}
-use Rattle.ring_core.specs.Queue.{make_room, push, push_each}
-use Rattle.ring_core.proofs.Leaving.{has-first, has-later}
+use Rattle.machine.specs.Lists.{has_number}
+use Rattle.machine.specs.Ledger.{Ledger, Queued, Cancel}
+use Rattle.machine.specs.Queue.{make_room, push, push_each}
+use Rattle.machine.proofs.Leaving.{has-first, has-later}
 use Rattle.driver_core.specs.declared.slot.Slot.{Slot}
 use Rattle.uring_driver.specs.Pending.{Pending}
 use Rattle.uring_driver.specs.Submissions.{with_spare, room_made, pending_ring, Posts, PostsEach}

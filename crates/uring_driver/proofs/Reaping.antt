@@ -7,15 +7,15 @@ use Rattle.std.specs.FinMap.{FinMap, get, insert, remove}
 use Rattle.rent_buf.specs.Buffer.{Buffer}
 use Rattle.op_slots.specs.declared.lifecycle.Lifecycle.TheVariants.{Completed}
 use Rattle.ring_core.specs.Ring.{RingView, with_done}
-use Rattle.ring_core.specs.Lists.{amended}
-use Rattle.ring_core.specs.declared.entry.Completion.{Completion}
-use Rattle.ring_core.specs.declared.request.Outcome.{Outcome}
-use Rattle.ring_core.specs.Ledger.{Ledger, Operation, Place, InQueue, InFlight, InDone, Gone, is_live, is_kept}
-use Rattle.ring_core.specs.Queue.{at_place, with_op, with_gone}
-use Rattle.ring_core.specs.Request.{named as handles_of, makes, plain_request}
-use Rattle.ring_core.specs.Turn.{reaped_place, with_reap, task_if}
-use Rattle.ring_core.proofs.Amended.{get-amended-same, get-amended-other}
-use Rattle.ring_core.proofs.Requests.{named-holding, named-mapped, makes-holding, makes-mapped}
+use Rattle.machine.specs.Lists.{amended}
+use Rattle.machine.specs.declared.completion.Completion.{Completion}
+use Rattle.machine.specs.declared.request.Outcome.{Outcome}
+use Rattle.machine.specs.Ledger.{Ledger, Operation, Place, InQueue, InFlight, InDone, Gone, is_live, is_kept}
+use Rattle.machine.specs.Queue.{at_place, with_op, with_gone}
+use Rattle.machine.specs.Request.{named as handles_of, makes, plain_request}
+use Rattle.machine.specs.Turn.{reaped_place, with_reap, task_if}
+use Rattle.machine.proofs.Amended.{get-amended-same, get-amended-other}
+use Rattle.machine.proofs.Requests.{named-holding, named-mapped, makes-holding, makes-mapped}
 use Rattle.driver_core.specs.declared.slot.Slot.{Slot}
 use Rattle.driver_core.specs.Slot.{with_life, is_flying, flies_in, task_in, slots_completed, named_by, slots_after}
 use Rattle.driver_core.specs.Holds.{if_dropped, dropped_in, is_maker, is_dropped, is_dropped_life}

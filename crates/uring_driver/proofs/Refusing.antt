@@ -8,14 +8,14 @@ use Rattle.ring_core.specs.MemRing.{ExecutesFor, is_allowed_body}
 use Rattle.ring_core.specs.declared.entry.Body.{Body}
 use Rattle.ring_core.specs.declared.entry.Body.TheVariants.{Call as Calls, Cancel as Cancels, Close as Closes}
 use Rattle.ring_core.specs.declared.entry.Flight.{Flight}
-use Rattle.ring_core.specs.declared.request.Told.{Told}
+use Rattle.machine.specs.declared.request.Told.{Told}
 use Rattle.ring_core.specs.declared.mem_ring.ExecRefusal.{ExecRefusal}
 use Rattle.ring_core.specs.declared.mem_ring.ExecRefusal.TheVariants.{NotFlying, Waiting, BadOutcome, OutOfMemory}
-use Rattle.ring_core.specs.Ledger.{Ledger, Item, Op}
-use Rattle.ring_core.specs.Lists.{passes}
-use Rattle.ring_core.specs.declared.ledger.Event.TheVariants.{Exec}
-use Rattle.ring_core.specs.declared.ledger.Refusal.TheVariants.{Waiting as Waits}
-use Rattle.ring_core.specs.Refusal.{allowed, waits, cause}
+use Rattle.machine.specs.Ledger.{Ledger, Item, Op}
+use Rattle.machine.specs.Lists.{passes}
+use Rattle.machine.specs.declared.ledger.Event.TheVariants.{Exec}
+use Rattle.machine.specs.declared.ledger.Refusal.TheVariants.{Waiting as Waits}
+use Rattle.machine.specs.Refusal.{allowed, waits, cause}
 use Rattle.uring_driver.specs.declared.uring.IoUringDriver.{IoUringDriver}
 use Rattle.uring_driver.specs.Uring.{ring_in, whole_ring}
 use Rattle.uring_driver.specs.Lists.{FlightFor, is_call, item_in, item_of}

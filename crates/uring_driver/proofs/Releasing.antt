@@ -11,35 +11,35 @@ use Rattle.rent_buf.specs.Buffer.{Buffer}
 use Rattle.ring_core.specs.Ring.{RingView}
 use Rattle.ring_core.specs.MemRing.{finished}
 use Rattle.ring_core.specs.Bound.{completion_of, is_bound, bound_front, unbound, left_behind, taken_along, broken, IsTakenBound}
-use Rattle.ring_core.specs.Lists.{amended, numbers_where, passes}
-use Rattle.ring_core.specs.Effect.{Effect, effect, count_effect, message_effect, without_message}
-use Rattle.ring_core.specs.Request.{plain_request, IsHolding}
-use Rattle.ring_core.specs.World.{messages_at}
-use Rattle.ring_core.specs.declared.request.Call.{Call}
-use Rattle.ring_core.specs.declared.request.Call.TheVariants.{In, Out, MessageIn, MessageOut, ReadAt, WriteAt, ToPipe, FromPipe, Accept}
-use Rattle.ring_core.specs.declared.request.Call.TheVariants.{Open, Connect, Fsync, PollAdd, Path}
-use Rattle.ring_core.specs.declared.request.TheConstants.{CANCELED}
-use Rattle.ring_core.specs.declared.request.Told.{Told}
-use Rattle.ring_core.specs.declared.request.Told.TheVariants.{Count, Fail}
-use Rattle.ring_core.specs.declared.request.Outcome.{Outcome}
+use Rattle.machine.specs.Lists.{amended, numbers_where, passes}
+use Rattle.machine.specs.Effect.{Effect, effect, count_effect, message_effect, without_message}
+use Rattle.machine.specs.Request.{plain_request, IsHolding}
+use Rattle.machine.specs.World.{messages_at}
+use Rattle.machine.specs.declared.request.Call.{Call}
+use Rattle.machine.specs.declared.request.Call.TheVariants.{In, Out, MessageIn, MessageOut, ReadAt, WriteAt, ToPipe, FromPipe, Accept}
+use Rattle.machine.specs.declared.request.Call.TheVariants.{Open, Connect, Fsync, PollAdd, Path}
+use Rattle.machine.specs.declared.request.TheConstants.{CANCELED}
+use Rattle.machine.specs.declared.request.Told.{Told}
+use Rattle.machine.specs.declared.request.Told.TheVariants.{Count, Fail}
+use Rattle.machine.specs.declared.request.Outcome.{Outcome}
 use Rattle.ring_core.specs.declared.entry.Body.{Body}
 use Rattle.ring_core.specs.declared.entry.Body.TheVariants.{Call as Calls, Cancel as Cancels, Close as Closes}
 use Rattle.ring_core.specs.declared.entry.Entry.{Entry}
 use Rattle.ring_core.specs.declared.entry.Flight.{Flight}
-use Rattle.ring_core.specs.declared.world.HandleState.{HandleState}
-use Rattle.ring_core.specs.Ledger.{Ledger, Operation, InDone, Item, Op, is_kept, is_owned}
-use Rattle.ring_core.specs.Queue.{with_op}
-use Rattle.ring_core.specs.Turn.{waiting_on, unless_waits, with_break, break_one, break_each, complete_at, released}
-use Rattle.ring_core.proofs.Amended.{get-amended-same}
+use Rattle.machine.specs.declared.world.HandleState.{HandleState}
+use Rattle.machine.specs.Ledger.{Ledger, Operation, InDone, Item, Op, is_kept, is_owned}
+use Rattle.machine.specs.Queue.{with_op}
+use Rattle.machine.specs.Turn.{waiting_on, unless_waits, with_break, break_one, break_each, complete_at, released}
+use Rattle.machine.proofs.Amended.{get-amended-same}
 use Rattle.ring_core.proofs.Binding.{unbound-parts, none-bound, none-broken, left-broken, next-broken, behind-counted, free-behind}
 use Rattle.ring_core.proofs.Binding.{left-removed}
-use Rattle.ring_core.proofs.Where.{where-map}
-use Rattle.ring_core.proofs.Taking.{Listed}
-use Rattle.ring_core.proofs.Releasing.{AreFlown, waiting-flown, first-flies, rest-flown, flies-at, flies-listed, listed-break_one}
-use Rattle.ring_core.proofs.Releasing.{unless-keeps}
-use Rattle.ring_core.proofs.Releasing.{let_go}
-use Rattle.ring_core.proofs.Behind.{awaited, awaited_by, waiting_front, listed-there}
-use Rattle.ring_core.proofs.Parting.{Parted, get-drop, front-first, leaves, parted-break, break-front, parted-waits}
+use Rattle.machine.proofs.Where.{where-map}
+use Rattle.machine.proofs.Taking.{Listed}
+use Rattle.machine.proofs.Releasing.{AreFlown, waiting-flown, first-flies, rest-flown, flies-at, flies-listed, listed-break_one}
+use Rattle.machine.proofs.Releasing.{unless-keeps}
+use Rattle.machine.proofs.Releasing.{let_go}
+use Rattle.machine.proofs.Behind.{awaited, awaited_by, waiting_front, listed-there}
+use Rattle.machine.proofs.Parting.{Parted, get-drop, front-first, leaves, parted-break, break-front, parted-waits}
 use Rattle.driver_core.specs.declared.slot.Slot.{Slot}
 use Rattle.driver_core.specs.Holds.{is_seen}
 use Rattle.driver_core.specs.Slots.{SlotFor, is_early, life_of}

@@ -11,7 +11,7 @@ use Rattle.driver_core.specs.Op.{PollsTokens}
 use Rattle.driver_core.specs.Ops.{Ops}
 use Rattle.driver_core.specs.Slot.{number_at, serial_of, KeepsNumbers}
 use Rattle.uring_driver.specs.State.{IsSound}
-use Rattle.ring_core.proofs.Numbers.{same-or-not}
+use Rattle.machine.proofs.Numbers.{same-or-not}
 use Rattle.driver_core.proofs.Maps.{gone-other, len-new, len-gone, len-some}
 use Rattle.driver_core.proofs.Numbers.{owner}
 

@@ -8,23 +8,23 @@ use Rattle.rent_buf.specs.Buffer.{Buffer}
 use Rattle.ring_core.specs.Ring.{RingView}
 use Rattle.ring_core.specs.MemRing.{fresh_ring}
 use Rattle.ring_core.specs.Lends.{with_world}
-use Rattle.ring_core.specs.Lists.{amended, numbers_where, passes}
-use Rattle.ring_core.specs.World.{fresh, with_input, with_message, with_end, look_at, refuses_feed, refuses_message, refuses_end}
-use Rattle.ring_core.specs.World.{WorldFeeds, WorldFeedsMessage, WorldEnds}
-use Rattle.ring_core.specs.declared.entry.TheConstants.{MOST_HANDLES}
-use Rattle.ring_core.specs.declared.world.HandleKind.{HandleKind}
-use Rattle.ring_core.specs.declared.world.HandleState.{HandleState}
-use Rattle.ring_core.specs.declared.world.Look.{Look}
-use Rattle.ring_core.specs.declared.world.WorldError.{WorldError}
-use Rattle.ring_core.specs.declared.world.WorldError.TheVariants.{BadHandleEvent, OutOfMemory}
-use Rattle.ring_core.specs.declared.ledger.Event.{Event}
-use Rattle.ring_core.specs.declared.ledger.Event.TheVariants.{Give, Feed, FeedMessage, End}
-use Rattle.ring_core.specs.declared.ledger.Reply.{Reply}
-use Rattle.ring_core.specs.declared.ledger.Reply.TheVariants.{Handle, Fed, Ended}
-use Rattle.ring_core.specs.Ledger.{Ledger, Owner, empty, is_owned}
-use Rattle.ring_core.specs.Step.{step, new_owner, give_step, with_handle, look_reply}
-use Rattle.ring_core.specs.Run.{ledger}
-use Rattle.ring_core.proofs.Amended.{length-amended}
+use Rattle.machine.specs.Lists.{amended, numbers_where, passes}
+use Rattle.machine.specs.World.{fresh, with_input, with_message, with_end, look_at, refuses_feed, refuses_message, refuses_end}
+use Rattle.machine.specs.World.{WorldFeeds, WorldFeedsMessage, WorldEnds}
+use Rattle.machine.specs.declared.world.TheConstants.{MOST_HANDLES}
+use Rattle.machine.specs.declared.world.HandleKind.{HandleKind}
+use Rattle.machine.specs.declared.world.HandleState.{HandleState}
+use Rattle.machine.specs.declared.world.Look.{Look}
+use Rattle.machine.specs.declared.world.WorldError.{WorldError}
+use Rattle.machine.specs.declared.world.WorldError.TheVariants.{BadHandleEvent, OutOfMemory}
+use Rattle.machine.specs.declared.ledger.Event.{Event}
+use Rattle.machine.specs.declared.ledger.Event.TheVariants.{Give, Feed, FeedMessage, End}
+use Rattle.machine.specs.declared.ledger.Reply.{Reply}
+use Rattle.machine.specs.declared.ledger.Reply.TheVariants.{Handle, Fed, Ended}
+use Rattle.machine.specs.Ledger.{Ledger, Owner, empty, is_owned}
+use Rattle.machine.specs.Step.{step, new_owner, give_step, with_handle, look_reply}
+use Rattle.machine.specs.Run.{ledger}
+use Rattle.machine.proofs.Amended.{length-amended}
 use Rattle.handle_core.specs.declared.table.Holders.{Holders}
 use Rattle.driver_core.specs.Groups.{GroupsStand}
 use Rattle.driver_core.specs.Members.{none}

@@ -6,33 +6,33 @@ use Rattle.std.proofs.lemmas.Bool.{lt-leb, le-leb}
 use Rattle.std.proofs.lemmas.Option.{slice_get_within}
 use Rattle.rent_buf.specs.Buffer.{Buffer}
 use Rattle.rent_buf.specs.Parts.{Parts}
-use Rattle.ring_core.specs.declared.request.Request.{Request}
-use Rattle.ring_core.specs.declared.request.Told.{Told}
-use Rattle.ring_core.specs.declared.request.Outcome.{Outcome}
-use Rattle.ring_core.specs.declared.world.HandleKind.{HandleKind}
-use Rattle.ring_core.specs.declared.ledger.Event.{Event}
-use Rattle.ring_core.specs.declared.ledger.Event.TheVariants.{Give, Feed, End, Look, Close, Submit, Poll, Drop, Cancel as Asks, Turn, Exec}
-use Rattle.ring_core.specs.declared.ledger.Event.TheVariants.{FeedMessage, NewCanceller, NewHandle, CancelAll}
-use Rattle.ring_core.specs.declared.ledger.Reply.TheVariants.{Handle, Fed, Ended, Submitted, Pending, Handed, Dropped, Asked}
-use Rattle.ring_core.specs.declared.ledger.Reply.TheVariants.{Released, CanceledAtOnce, Canceller, CancelHandle, Cancels}
-use Rattle.ring_core.specs.declared.ledger.Refusal.{Refusal}
-use Rattle.ring_core.specs.declared.ledger.Refusal.TheVariants.{NoOp, NoCanceller, NoHandle, Full, NotFlying, Waiting, BadOutcome}
-use Rattle.ring_core.specs.declared.ledger.Refusal.TheVariants.{BadHandleEvent}
-use Rattle.ring_core.specs.Lists.{passes}
-use Rattle.ring_core.specs.Outcome.{is_allowed}
-use Rattle.ring_core.specs.Request.{named, held_of, call_of}
-use Rattle.ring_core.specs.World.{fresh, with_input, with_message, with_end, look_at, refuses_feed, refuses_message, refuses_end}
-use Rattle.ring_core.specs.Ledger.{Ledger, Operation, Place, InQueue, InFlight, InDone, Reaped, Gone, Cancel, Item, Op, is_owned}
-use Rattle.ring_core.specs.Ledger.{live_ops, user_holds, empty, is_under_marked, group_under, members}
-use Rattle.ring_core.specs.Queue.{with_op, push, leave}
-use Rattle.ring_core.specs.Refusal.{cause, refused_if, lacks_handle, allowed, waits, has_no_canceller}
-use Rattle.ring_core.specs.declared.ledger.TheConstants.{MOST_LIVE}
-use Rattle.ring_core.specs.Turn.{turn_step, exec_step}
-use Rattle.ring_core.specs.Step.{step, answered, give_step, poll_at, poll_step, drop_at, drop_step, submit_step, with_handle, with_task}
-use Rattle.ring_core.specs.Step.{handed_over, with_drop, close_step, submit_if, new_canceller_step, new_handle_step}
-use Rattle.ring_core.specs.Step.{cancel_all_step, look_reply}
-use Rattle.ring_core.proofs.Stepping.{step-row}
-use Rattle.ring_core.specs.Run.{after, ledger}
+use Rattle.machine.specs.declared.request.Request.{Request}
+use Rattle.machine.specs.declared.request.Told.{Told}
+use Rattle.machine.specs.declared.request.Outcome.{Outcome}
+use Rattle.machine.specs.declared.world.HandleKind.{HandleKind}
+use Rattle.machine.specs.declared.ledger.Event.{Event}
+use Rattle.machine.specs.declared.ledger.Event.TheVariants.{Give, Feed, End, Look, Close, Submit, Poll, Drop, Cancel as Asks, Turn, Exec}
+use Rattle.machine.specs.declared.ledger.Event.TheVariants.{FeedMessage, NewCanceller, NewHandle, CancelAll}
+use Rattle.machine.specs.declared.ledger.Reply.TheVariants.{Handle, Fed, Ended, Submitted, Pending, Handed, Dropped, Asked}
+use Rattle.machine.specs.declared.ledger.Reply.TheVariants.{Released, CanceledAtOnce, Canceller, CancelHandle, Cancels}
+use Rattle.machine.specs.declared.ledger.Refusal.{Refusal}
+use Rattle.machine.specs.declared.ledger.Refusal.TheVariants.{NoOp, NoCanceller, NoHandle, Full, NotFlying, Waiting, BadOutcome}
+use Rattle.machine.specs.declared.ledger.Refusal.TheVariants.{BadHandleEvent}
+use Rattle.machine.specs.Lists.{passes}
+use Rattle.machine.specs.Outcome.{is_allowed}
+use Rattle.machine.specs.Request.{named, held_of, call_of}
+use Rattle.machine.specs.World.{fresh, with_input, with_message, with_end, look_at, refuses_feed, refuses_message, refuses_end}
+use Rattle.machine.specs.Ledger.{Ledger, Operation, Place, InQueue, InFlight, InDone, Reaped, Gone, Cancel, Item, Op, is_owned}
+use Rattle.machine.specs.Ledger.{live_ops, user_holds, empty, is_under_marked, group_under, members}
+use Rattle.machine.specs.Queue.{with_op, push, leave}
+use Rattle.machine.specs.Refusal.{cause, refused_if, lacks_handle, allowed, waits, has_no_canceller}
+use Rattle.machine.specs.declared.ledger.TheConstants.{MOST_LIVE}
+use Rattle.machine.specs.Turn.{turn_step, exec_step}
+use Rattle.machine.specs.Step.{step, answered, give_step, poll_at, poll_step, drop_at, drop_step, submit_step, with_handle, with_task}
+use Rattle.machine.specs.Step.{handed_over, with_drop, close_step, submit_if, new_canceller_step, new_handle_step}
+use Rattle.machine.specs.Step.{cancel_all_step, look_reply}
+use Rattle.machine.proofs.Stepping.{step-row}
+use Rattle.machine.specs.Run.{after, ledger}
 pub use Rattle.std.proofs.lemmas.Bool.{lt-leb as below-test, le-leb as past-test}
 
 -- One more event is one step more.

@@ -3,17 +3,18 @@ use Rattle.std.proofs.Common.{◌≡◌, inl, inr, ℕ, Bool, true, false, ◌&&
 use Rattle.std.specs.Ordering.{nat_cmp}
 use Rattle.std.specs.FinMap.{FinMap, get, insert}
 use Rattle.rent_buf.specs.Buffer.{Buffer}
-use Rattle.ring_core.specs.declared.entry.Completion.{Completion}
-use Rattle.ring_core.specs.declared.request.Told.{Told}
+use Rattle.machine.specs.declared.completion.Completion.{Completion}
+use Rattle.machine.specs.declared.request.Told.{Told}
 use Rattle.ring_core.specs.MemRing.{IsExecuted}
-use Rattle.ring_core.specs.Payloads.{StoresIf, body_comes}
-use Rattle.ring_core.specs.Lists.{has_number}
+use Rattle.machine.specs.Payloads.{StoresIf}
+use Rattle.ring_core.specs.Bodies.{body_comes}
+use Rattle.machine.specs.Lists.{has_number}
 use Rattle.ring_core.specs.Ring.{RingView}
-use Rattle.ring_core.specs.Surroundings.{Surroundings}
-use Rattle.ring_core.specs.Request.{makes, plain_request, held_after}
-use Rattle.ring_core.specs.Ledger.{with_made}
-use Rattle.ring_core.proofs.Requests.{named-mapped, named-holding, makes-mapped, makes-holding}
-use Rattle.ring_core.proofs.Numbers.{same-or-not}
+use Rattle.machine.specs.Surroundings.{Surroundings}
+use Rattle.machine.specs.Request.{makes, plain_request, held_after}
+use Rattle.machine.specs.Ledger.{with_made}
+use Rattle.machine.proofs.Requests.{named-mapped, named-holding, makes-mapped, makes-holding}
+use Rattle.machine.proofs.Numbers.{same-or-not}
 use Rattle.driver_core.specs.declared.slot.Slot.{Slot}
 use Rattle.driver_core.specs.Slot.{is_flying, fits_in, IsFilled, FillsIf, FillsSlot}
 use Rattle.driver_core.specs.Holds.{named_in, made_life, made_in, is_maker}

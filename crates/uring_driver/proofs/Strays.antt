@@ -3,14 +3,14 @@ use Rattle.std.proofs.Common.{◌≡◌, ◌≤◌, ℕ, Bool, true, false, List
 use Rattle.std.proofs.Common.{subst, arith}
 use Rattle.std.specs.Ordering.{nat_cmp}
 use Rattle.std.specs.FinMap.{FinMap, get}
-use Rattle.ring_core.specs.declared.entry.Completion.{Completion}
+use Rattle.machine.specs.declared.completion.Completion.{Completion}
 use Rattle.ring_core.specs.declared.entry.Target.{Target}
 use Rattle.ring_core.specs.declared.entry.Target.TheVariants.{Slot as Keyed, Handle, Reserved}
 use Rattle.ring_core.specs.Entry.{target}
 use Rattle.driver_core.specs.declared.slot.Slot.{Slot}
 use Rattle.driver_core.specs.Slot.{is_flying, flies_in, named_by, named_if}
 use Rattle.driver_core.specs.Holds.{is_maker}
-use Rattle.ring_core.specs.Effect.{made_by}
+use Rattle.machine.specs.Effect.{made_by}
 use Rattle.std.specs.Prelude.{not, ◌||◌}
 use Rattle.uring_driver.specs.Holding.{Holding, closes}
 use Rattle.uring_driver.specs.Making.{refuses_made}

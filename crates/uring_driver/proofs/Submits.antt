@@ -12,23 +12,23 @@ use Rattle.rent_buf.specs.Parts.{Parts}
 use Rattle.op_slots.specs.declared.slab.TheConstants.{MAX_LIVE}
 use Rattle.op_slots.specs.declared.lifecycle.Lifecycle.TheVariants.{Submitted as Fresh}
 use Rattle.ring_core.specs.Ring.{RingView, pushed}
-use Rattle.ring_core.specs.Ranks.{one_if}
-use Rattle.ring_core.specs.Request.{named, makes, call_of, held_of, plain_request}
-use Rattle.ring_core.specs.declared.request.Request.{Request}
-use Rattle.ring_core.proofs.Requests.{named-mapped}
+use Rattle.machine.specs.Lists.{one_if}
+use Rattle.machine.specs.Request.{named, makes, call_of, held_of, plain_request}
+use Rattle.machine.specs.declared.request.Request.{Request}
+use Rattle.machine.proofs.Requests.{named-mapped}
 use Rattle.ring_core.specs.Entry.{call_entry}
 use Rattle.ring_core.specs.declared.entry.Entry.{Entry}
-use Rattle.ring_core.specs.declared.ledger.Event.TheVariants.{Submit}
-use Rattle.ring_core.specs.declared.ledger.Reply.TheVariants.{Submitted, CanceledAtOnce}
-use Rattle.ring_core.specs.Lists.{numbers_where, passes}
-use Rattle.ring_core.specs.Ledger.{Ledger, Queued, Req, Cancel, Operation, is_live, is_owned, live_ops, new_operation}
-use Rattle.ring_core.specs.Ledger.{is_marked, is_under_marked, group_under}
-use Rattle.ring_core.specs.Queue.{with_take, with_cancel, take_one, leader_behind, take_behind, take_all, make_room, append, push}
-use Rattle.ring_core.specs.declared.ledger.TheConstants.{MOST_LIVE}
-use Rattle.ring_core.specs.Step.{step, submit_step, with_new_op}
-use Rattle.ring_core.proofs.Grouping.{op_groups, groups-submit}
-use Rattle.ring_core.proofs.Staying.{groups_of, stays-make_room}
-use Rattle.ring_core.specs.Run.{ledger}
+use Rattle.machine.specs.declared.ledger.Event.TheVariants.{Submit}
+use Rattle.machine.specs.declared.ledger.Reply.TheVariants.{Submitted, CanceledAtOnce}
+use Rattle.machine.specs.Lists.{numbers_where, passes}
+use Rattle.machine.specs.Ledger.{Ledger, Queued, Req, Cancel, Operation, is_live, is_owned, live_ops, new_operation}
+use Rattle.machine.specs.Ledger.{is_marked, is_under_marked, group_under}
+use Rattle.machine.specs.Queue.{with_take, with_cancel, take_one, leader_behind, take_behind, take_all, make_room, append, push}
+use Rattle.machine.specs.declared.ledger.TheConstants.{MOST_LIVE}
+use Rattle.machine.specs.Step.{step, submit_step, with_new_op}
+use Rattle.machine.proofs.Grouping.{op_groups, groups-submit}
+use Rattle.machine.proofs.Staying.{groups_of, stays-make_room}
+use Rattle.machine.specs.Run.{ledger}
 use Rattle.driver_core.specs.declared.op.SubmitFault.{SubmitFault}
 use Rattle.driver_core.specs.declared.op.SubmitFault.TheVariants.{Full, RingFault, Busy, Os, OutOfMemory}
 use Rattle.driver_core.specs.declared.slot.Slot.{Slot}
@@ -50,8 +50,8 @@ use Rattle.driver_core.specs.Operations.{Submits, new_slot}
 use Rattle.uring_driver.specs.Submissions.{with_spare, room_made}
 use Rattle.uring_driver.specs.Stands.{Stands, Answers}
 use Rattle.uring_driver.specs.Submitted.{IsSameRing, WhyRefused, CannotSubmit}
-use Rattle.ring_core.proofs.Amended.{amended-append, amended-append-fixed, length-amended}
-use Rattle.ring_core.proofs.Appended.{get-append-within}
+use Rattle.machine.proofs.Amended.{amended-append, amended-append-fixed, length-amended}
+use Rattle.machine.proofs.Appended.{get-append-within}
 use Rattle.driver_core.proofs.Counts.{where-more, where-within, owned-lives}
 use Rattle.uring_driver.proofs.Means.{Means, means-of, ring-of}
 use Rattle.uring_driver.proofs.Entering.{room-capacity}
@@ -62,7 +62,7 @@ use Rattle.uring_driver.proofs.Steps.{reached-more, step-submit, step-canceled}
 use Rattle.uring_driver.proofs.Submitting.{means-pushed}
 use Rattle.uring_driver.proofs.Heads.{means-view}
 use Rattle.uring_driver.proofs.Taking.{means-room, owned-room}
-use Rattle.ring_core.proofs.Taken.{length-make_room}
+use Rattle.machine.proofs.Taken.{length-make_room}
 
 -- A request in the queue is that of an operation that there is.
 abbrev IsKnown : ℕ → Queued → Type 0

@@ -11,28 +11,28 @@ use Rattle.rent_buf.specs.Parts.{Parts}
 use Rattle.op_slots.specs.declared.slab.TheConstants.{MAX_LIVE}
 use Rattle.op_slots.specs.declared.lifecycle.Lifecycle.TheVariants.{Submitted as Fresh}
 use Rattle.ring_core.specs.Ring.{RingView, pushed}
-use Rattle.ring_core.specs.Request.{call_of, plain_request}
+use Rattle.machine.specs.Request.{call_of, plain_request}
 use Rattle.ring_core.specs.declared.entry.Entry.{Entry}
-use Rattle.ring_core.specs.declared.entry.Completion.{Completion}
+use Rattle.machine.specs.declared.completion.Completion.{Completion}
 use Rattle.ring_core.specs.declared.entry.Flight.{Flight}
-use Rattle.ring_core.specs.declared.request.Request.{Request}
+use Rattle.machine.specs.declared.request.Request.{Request}
 use Rattle.ring_core.specs.declared.entry.Body.TheVariants.{Cancel as Cancels}
 use Rattle.ring_core.specs.Entry.{target, call_entry}
-use Rattle.ring_core.specs.Ledger.{Ledger, Req, Operation, Place, InDone, is_live, new_operation}
-use Rattle.ring_core.specs.Queue.{append}
-use Rattle.ring_core.specs.Step.{with_new_op}
+use Rattle.machine.specs.Ledger.{Ledger, Req, Operation, Place, InDone, is_live, new_operation}
+use Rattle.machine.specs.Queue.{append}
+use Rattle.machine.specs.Step.{with_new_op}
 use Rattle.driver_core.specs.declared.slot.Slot.{Slot}
 use Rattle.driver_core.specs.Slots.{SlotFor, SlotsStand}
 use Rattle.uring_driver.specs.Lists.{EntryFor, CompletionFor, IsAt, IsQueued, IsFlown, QueuedFor, CancelsMean, ListsStand, is_call}
 use Rattle.uring_driver.specs.Lists.{queued_of}
 use Rattle.uring_driver.proofs.Means.{Means}
-use Rattle.ring_core.proofs.Numbers.{same-or-not}
-use Rattle.ring_core.proofs.Appended.{get-append-end}
+use Rattle.machine.proofs.Numbers.{same-or-not}
+use Rattle.machine.proofs.Appended.{get-append-end}
 use Rattle.driver_core.proofs.Lists.{some, get-pushed, get-front}
 use Rattle.driver_core.proofs.Maps.{put-same, put-other, len-new}
 use Rattle.driver_core.proofs.Counts.{where-more}
 use Rattle.uring_driver.proofs.Kept.{queued-kept, flight-kept, done-kept, call-queued}
-use Rattle.ring_core.proofs.Requests.{holding-own}
+use Rattle.machine.proofs.Requests.{holding-own}
 
 module _ {B : Type 0} (buffer : B → Buffer) (w : RingView) (slots : FinMap nat_cmp (Slot B)) (M : Ledger) (given key : ℕ)
     (request : Request B Parts) (group : Option ℕ) (linked : Bool)

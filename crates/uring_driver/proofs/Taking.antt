@@ -8,12 +8,12 @@ use Rattle.std.proofs.lemmas.List.{length-map, length-drop, take-map, drop-map, 
 use Rattle.rent_buf.specs.Buffer.{Buffer}
 use Rattle.ring_core.specs.Ring.{RingView, entered, flying_after_entry, flying_bound, flying_after, binds_next, done_after_entry}
 use Rattle.ring_core.specs.Ring.{done_after, IsLater}
-use Rattle.ring_core.specs.Lists.{numbers_where, passes}
+use Rattle.machine.specs.Lists.{numbers_where, passes}
 use Rattle.ring_core.specs.declared.entry.Body.{Body}
 use Rattle.ring_core.specs.declared.entry.Body.TheVariants.{Call as Calls, Cancel as Cancels, Close as Closes}
 use Rattle.ring_core.specs.declared.entry.Entry.{Entry}
-use Rattle.ring_core.specs.Ledger.{Ledger, Queued, Req, Cancel, is_owned}
-use Rattle.ring_core.specs.Queue.{take_one, leader_behind, take_behind, take_each, take_all, make_room, with_cancel}
+use Rattle.machine.specs.Ledger.{Ledger, Queued, Req, Cancel, is_owned}
+use Rattle.machine.specs.Queue.{take_one, leader_behind, take_behind, take_each, take_all, make_room, with_cancel}
 use Rattle.driver_core.specs.declared.slot.Slot.{Slot}
 use Rattle.uring_driver.specs.Lists.{QueuedFor, queued_of, queued_in}
 use Rattle.uring_driver.specs.Submissions.{room_made, TookEach}

@@ -7,15 +7,15 @@ use Rattle.std.specs.FinMap.{FinMap}
 use Rattle.std.proofs.lemmas.List.{map-append}
 use Rattle.rent_buf.specs.Buffer.{Buffer}
 use Rattle.ring_core.specs.Ring.{RingView}
-use Rattle.ring_core.specs.Lists.{amended, numbers_where}
-use Rattle.ring_core.specs.declared.request.Call.{Call}
+use Rattle.machine.specs.Lists.{amended, numbers_where}
+use Rattle.machine.specs.declared.request.Call.{Call}
 use Rattle.ring_core.specs.declared.entry.Body.TheVariants.{Call as Calls}
 use Rattle.ring_core.specs.declared.entry.Entry.{Entry}
 use Rattle.ring_core.specs.declared.entry.Flight.{Flight}
 use Rattle.ring_core.specs.Entry.{target}
-use Rattle.ring_core.specs.Ledger.{Ledger, Req, Op, Operation, Place, InQueue, InFlight, InDone, is_live, is_kept, is_owned}
-use Rattle.ring_core.specs.Queue.{take_one, with_take}
-use Rattle.ring_core.proofs.Amended.{get-amended-same, get-amended-other}
+use Rattle.machine.specs.Ledger.{Ledger, Req, Op, Operation, Place, InQueue, InFlight, InDone, is_live, is_kept, is_owned}
+use Rattle.machine.specs.Queue.{take_one, with_take}
+use Rattle.machine.proofs.Amended.{get-amended-same, get-amended-other}
 use Rattle.driver_core.specs.declared.slot.Slot.{Slot}
 use Rattle.driver_core.specs.Slots.{SlotFor, life_of, is_early}
 use Rattle.uring_driver.specs.Lists.{EntryFor, IsAt, IsQueued, IsFlown, FlightFor, Meets, ListsStand, is_call, queued_of, item_in, item_of}

@@ -7,25 +7,25 @@ use Rattle.std.specs.FinMap.{FinMap}
 use Rattle.std.proofs.Math.Bool.{or-true, or-false}
 use Rattle.rent_buf.specs.Buffer.{Buffer}
 use Rattle.ring_core.specs.Ring.{RingView, marked_by}
-use Rattle.ring_core.specs.Lists.{amended}
-use Rattle.ring_core.specs.declared.request.Outcome.TheVariants.{Count as Counted}
+use Rattle.machine.specs.Lists.{amended}
+use Rattle.machine.specs.declared.request.Outcome.TheVariants.{Count as Counted}
 use Rattle.ring_core.specs.declared.entry.Body.TheVariants.{Cancel as Cancels}
 use Rattle.ring_core.specs.declared.entry.Entry.{Entry}
 use Rattle.ring_core.specs.declared.entry.Flight.{Flight}
-use Rattle.ring_core.specs.declared.entry.Completion.{Completion}
+use Rattle.machine.specs.declared.completion.Completion.{Completion}
 use Rattle.ring_core.specs.declared.entry.TheConstants.{CANCEL_WORD, FIRST_CLOSE}
 use Rattle.ring_core.specs.declared.entry.Target.TheVariants.{Reserved}
 use Rattle.ring_core.specs.Entry.{target}
 use Rattle.ring_core.proofs.Targets.{target-cancel}
-use Rattle.ring_core.specs.Ledger.{Ledger, Cancel, Operation, Place, InQueue, InFlight, InDone, Reaped, Gone, is_live, is_owned}
-use Rattle.ring_core.specs.Queue.{take_one, canceled_at, with_cancel}
-use Rattle.ring_core.proofs.Amended.{get-amended-same, get-amended-other}
+use Rattle.machine.specs.Ledger.{Ledger, Cancel, Operation, Place, InQueue, InFlight, InDone, Reaped, Gone, is_live, is_owned}
+use Rattle.machine.specs.Queue.{take_one, canceled_at, with_cancel}
+use Rattle.machine.proofs.Amended.{get-amended-same, get-amended-other}
 use Rattle.driver_core.specs.declared.slot.Slot.{Slot}
 use Rattle.driver_core.specs.Slots.{SlotFor, SlotsStand}
 use Rattle.uring_driver.specs.Lists.{IsAt, IsQueued, IsFlown, FlightFor, DoneFor, Meets, ListsStand, is_call, names_slot, queued_of}
 use Rattle.uring_driver.specs.Lists.{item_of}
 use Rattle.uring_driver.proofs.Means.{Means}
-use Rattle.ring_core.proofs.Numbers.{equal-other, same-or-not}
+use Rattle.machine.proofs.Numbers.{equal-other, same-or-not}
 use Rattle.driver_core.proofs.Distinct.{equal-is}
 use Rattle.driver_core.proofs.Lists.{map-get, get-pushed, amended-absent}
 use Rattle.uring_driver.proofs.Kept.{cancel-queued, close-flown, queued-kept, flight-kept, done-kept, done-reserved}

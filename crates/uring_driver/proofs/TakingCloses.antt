@@ -4,14 +4,14 @@ use Rattle.std.specs.Ordering.{nat_cmp}
 use Rattle.std.specs.FinMap.{FinMap}
 use Rattle.std.proofs.lemmas.List.{map-append}
 use Rattle.rent_buf.specs.Buffer.{Buffer}
-use Rattle.ring_core.specs.declared.entry.TheConstants.{MOST_HANDLES}
+use Rattle.machine.specs.declared.world.TheConstants.{MOST_HANDLES}
 use Rattle.ring_core.specs.Ring.{RingView}
 use Rattle.ring_core.specs.Entry.{close_entry}
 use Rattle.ring_core.specs.declared.entry.Body.TheVariants.{Close as Closes}
 use Rattle.ring_core.specs.declared.entry.Entry.{Entry}
 use Rattle.ring_core.specs.declared.entry.Flight.{Flight}
-use Rattle.ring_core.specs.Ledger.{Ledger, Queued, Item}
-use Rattle.ring_core.specs.Queue.{take_one}
+use Rattle.machine.specs.Ledger.{Ledger, Queued, Item}
+use Rattle.machine.specs.Queue.{take_one}
 use Rattle.driver_core.specs.declared.slot.Slot.{Slot}
 use Rattle.uring_driver.specs.Lists.{FlightFor, ListsStand, is_call, queued_of, item_in, item_of}
 use Rattle.uring_driver.proofs.Means.{Means}

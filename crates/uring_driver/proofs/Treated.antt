@@ -4,13 +4,13 @@ use Rattle.std.proofs.Common.{◌∙◌, ap, subst}
 use Rattle.std.proofs.Common.{append_assoc, append-nil, length-append}
 use Rattle.std.specs.Ordering.{nat_cmp}
 use Rattle.std.specs.FinMap.{FinMap}
-use Rattle.ring_core.specs.declared.entry.TheConstants.{MOST_HANDLES}
-use Rattle.ring_core.specs.declared.entry.Completion.{Completion}
+use Rattle.machine.specs.declared.world.TheConstants.{MOST_HANDLES}
+use Rattle.machine.specs.declared.completion.Completion.{Completion}
 use Rattle.ring_core.specs.Entry.{target}
-use Rattle.ring_core.specs.Lists.{has_number}
+use Rattle.machine.specs.Lists.{has_number}
 use Rattle.ring_core.specs.Ring.{RingView, IsTakenOff}
-use Rattle.ring_core.proofs.Leaving.{has-first, has-later, has-other}
-use Rattle.ring_core.proofs.Numbers.{same-or-not}
+use Rattle.machine.proofs.Leaving.{has-first, has-later, has-other}
+use Rattle.machine.proofs.Numbers.{same-or-not}
 use Rattle.driver_core.specs.declared.slot.Slot.{Slot}
 use Rattle.uring_driver.specs.declared.uring.turn.Named.{Named}
 use Rattle.uring_driver.specs.Holding.{Holding}

@@ -4,7 +4,7 @@ use Rattle.std.proofs.Common.{subst, arith}
 use Rattle.std.specs.Prelude.{option_to_list}
 use Rattle.std.specs.Ordering.{nat_cmp}
 use Rattle.std.specs.FinMap.{FinMap, get}
-use Rattle.ring_core.specs.declared.entry.Completion.{Completion}
+use Rattle.machine.specs.declared.completion.Completion.{Completion}
 use Rattle.ring_core.specs.Ring.{RingView}
 use Rattle.driver_core.specs.declared.slot.Slot.{Slot}
 use Rattle.driver_core.specs.Slot.{CompletesSlot, KeepsNumbers, is_flying, named_by, named_if, slots_if, slots_after}

@@ -5,17 +5,17 @@ use Rattle.std.proofs.Common.{arith, append-nil, length-append}
 use Rattle.std.specs.Prelude.{IsTrue, take, drop}
 use Rattle.std.proofs.lemmas.List.{append_cancel_left, length-drop, length-map}
 use Rattle.rent_buf.specs.Buffer.{Buffer}
-use Rattle.ring_core.specs.declared.entry.TheConstants.{MOST_HANDLES}
-use Rattle.ring_core.specs.declared.ledger.Event.TheVariants.{Turn}
-use Rattle.ring_core.specs.declared.ledger.Reply.TheVariants.{Turned as TurnReply}
-use Rattle.ring_core.specs.declared.entry.Completion.{Completion}
-use Rattle.ring_core.specs.Lists.{has_number}
-use Rattle.ring_core.specs.Ledger.{Ledger}
-use Rattle.ring_core.specs.Queue.{take_all}
+use Rattle.machine.specs.declared.world.TheConstants.{MOST_HANDLES}
+use Rattle.machine.specs.declared.ledger.Event.TheVariants.{Turn}
+use Rattle.machine.specs.declared.ledger.Reply.TheVariants.{Turned as TurnReply}
+use Rattle.machine.specs.declared.completion.Completion.{Completion}
+use Rattle.machine.specs.Lists.{has_number}
+use Rattle.machine.specs.Ledger.{Ledger}
+use Rattle.machine.specs.Queue.{take_all}
 use Rattle.ring_core.specs.Ring.{RingView, with_done}
-use Rattle.ring_core.specs.Step.{step}
-use Rattle.ring_core.specs.Turn.{ops_in, closes_in, tasks_woken}
-use Rattle.ring_core.proofs.Staying.{stays-length, stays-take_each, stays-reap_each}
+use Rattle.machine.specs.Step.{step}
+use Rattle.machine.specs.Turn.{ops_in, closes_in, tasks_woken}
+use Rattle.machine.proofs.Staying.{stays-length, stays-take_each, stays-reap_each}
 use Rattle.driver_core.specs.declared.op.Turned.{Turned}
 use Rattle.driver_core.specs.Holds.{AreMaking}
 use Rattle.driver_core.specs.Slot.{KeepsNumbers}

@@ -8,15 +8,15 @@ use Rattle.std.proofs.lemmas.List.Concat.{flat_map-append}
 use Rattle.std.specs.Ordering.{nat_cmp}
 use Rattle.std.specs.FinMap.{FinMap}
 use Rattle.rent_buf.specs.Buffer.{Buffer}
-use Rattle.ring_core.specs.declared.entry.TheConstants.{MOST_HANDLES}
-use Rattle.ring_core.specs.declared.entry.Completion.{Completion}
+use Rattle.machine.specs.declared.world.TheConstants.{MOST_HANDLES}
+use Rattle.machine.specs.declared.completion.Completion.{Completion}
 use Rattle.ring_core.specs.Entry.{target, close_entry}
-use Rattle.ring_core.specs.Lists.{has_number}
+use Rattle.machine.specs.Lists.{has_number}
 use Rattle.ring_core.specs.Ring.{RingView, with_done}
-use Rattle.ring_core.specs.Ledger.{Ledger, Operation, Item, Op}
-use Rattle.ring_core.specs.Turn.{reap_one, reap_each, ops_in, closes_in, task_if, task_woken, tasks_woken}
-use Rattle.ring_core.proofs.Amended.{get-map}
-use Rattle.ring_core.proofs.Staying.{Stay, stay_of, Stays, stays-reap_each, beside-reap_one}
+use Rattle.machine.specs.Ledger.{Ledger, Operation, Item, Op}
+use Rattle.machine.specs.Turn.{reap_one, reap_each, ops_in, closes_in, task_if, task_woken, tasks_woken}
+use Rattle.machine.proofs.Amended.{get-map}
+use Rattle.machine.proofs.Staying.{Stay, stay_of, Stays, stays-reap_each, beside-reap_one}
 use Rattle.driver_core.specs.declared.slot.Slot.{Slot}
 use Rattle.uring_driver.specs.Holding.{Holding}
 use Rattle.uring_driver.specs.Lists.{done_items_of}

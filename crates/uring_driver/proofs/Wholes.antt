@@ -4,12 +4,12 @@ use Rattle.std.proofs.Common.{ap, subst, append-nil, arith, length-append}
 use Rattle.std.specs.Prelude.{IsTrue, IfNone, take, drop}
 use Rattle.std.proofs.lemmas.List.{take-append-drop, length-map}
 use Rattle.rent_buf.specs.Buffer.{Buffer}
-use Rattle.ring_core.specs.declared.ledger.Event.TheVariants.{Turn}
-use Rattle.ring_core.specs.Ledger.{Ledger}
+use Rattle.machine.specs.declared.ledger.Event.TheVariants.{Turn}
+use Rattle.machine.specs.Ledger.{Ledger}
 use Rattle.ring_core.specs.declared.entry.Entry.{Entry}
 use Rattle.ring_core.specs.Entry.{close_entry}
 use Rattle.ring_core.specs.Ring.{RingView}
-use Rattle.ring_core.specs.Step.{step}
+use Rattle.machine.specs.Step.{step}
 use Rattle.driver_core.specs.declared.op.Stop.{Stop}
 use Rattle.driver_core.specs.declared.op.Stop.TheVariants.{RingFault, Busy, BadCompletion, Os, OutOfMemory}
 use Rattle.driver_core.specs.declared.op.Turned.{Turned}

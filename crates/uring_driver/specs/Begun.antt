@@ -1,7 +1,7 @@
 -- How a turn begins, and how its end makes it whole. Cited by `begin_turn` and `end_turn` of the driver, and by no public clause.
 use Rattle.std.specs.Prelude.{ℕ, ◌≡◌, ◌||◌, Bool, true, false, IsTrue, List, [], length, nat_lt, Option, Some, None, ⊤}
 use Rattle.rent_buf.specs.Buffer.{Buffer}
-use Rattle.ring_core.specs.Counts.{Rose}
+use Rattle.machine.specs.Counts.{Rose}
 use Rattle.ring_core.specs.Ring.{RingView}
 use Rattle.driver_core.specs.declared.op.Stop.{Stop}
 use Rattle.driver_core.specs.declared.op.Stop.TheVariants.{RingFault, Busy, BadCompletion, Os, OutOfMemory}

@@ -1,19 +1,19 @@
 -- What an execution answers, of a driver that stands for a ledger, and of every driver.
 use Rattle.std.specs.Prelude.{ℕ, ◌≡◌, ◌≤◌, true, false, length, Some, None, Result, Ok, Err}
 use Rattle.rent_buf.specs.Buffer.{Buffer}
-use Rattle.ring_core.specs.declared.request.Told.{Told}
-use Rattle.ring_core.specs.declared.ledger.Event.TheVariants.{Exec}
-use Rattle.ring_core.specs.declared.ledger.Reply.TheVariants.{ExecutedOp, ExecutedClose}
-use Rattle.ring_core.specs.declared.ledger.Refusal.TheVariants.{NotFlying as NoFlight, Waiting as WaitsStill}
-use Rattle.ring_core.specs.declared.ledger.Refusal.TheVariants.{BadOutcome as WrongOutcome}
+use Rattle.machine.specs.declared.request.Told.{Told}
+use Rattle.machine.specs.declared.ledger.Event.TheVariants.{Exec}
+use Rattle.machine.specs.declared.ledger.Reply.TheVariants.{ExecutedOp, ExecutedClose}
+use Rattle.machine.specs.declared.ledger.Refusal.TheVariants.{NotFlying as NoFlight, Waiting as WaitsStill}
+use Rattle.machine.specs.declared.ledger.Refusal.TheVariants.{BadOutcome as WrongOutcome}
 use Rattle.ring_core.specs.declared.mem_ring.ExecRefusal.{ExecRefusal}
 use Rattle.ring_core.specs.declared.mem_ring.ExecRefusal.TheVariants.{NotFlying, Waiting, BadOutcome, OutOfMemory}
-use Rattle.ring_core.specs.Refusal.{cause}
-use Rattle.ring_core.specs.Ledger.{Ledger}
+use Rattle.machine.specs.Refusal.{cause}
+use Rattle.machine.specs.Ledger.{Ledger}
 use Rattle.ring_core.specs.Ring.{RingView}
 use Rattle.driver_core.specs.declared.op.Executed.{Executed}
 use Rattle.driver_core.specs.declared.op.Executed.TheVariants.{Op, Close}
-use Rattle.ring_core.specs.declared.entry.Completion.{Completion}
+use Rattle.machine.specs.declared.completion.Completion.{Completion}
 use Rattle.ring_core.specs.declared.entry.Target.{Target}
 use Rattle.ring_core.specs.declared.entry.Target.TheVariants.{Slot as Keyed, Handle, Reserved}
 use Rattle.ring_core.specs.Entry.{target}

@@ -1,6 +1,6 @@
 -- When a driver has nothing left to do, and what a stray completion changes. Cited by `finish` and `inject`.
 use Rattle.std.specs.Prelude.{ℕ, ◌≡◌, false, []}
-use Rattle.ring_core.specs.declared.entry.Completion.{Completion}
+use Rattle.machine.specs.declared.completion.Completion.{Completion}
 use Rattle.ring_core.specs.FaultRing.{FaultView, with_ring, with_completion}
 use Rattle.ring_core.specs.Ring.{RingView}
 use Rattle.uring_driver.specs.declared.uring.IoUringDriver.{IoUringDriver}

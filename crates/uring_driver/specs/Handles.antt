@@ -1,16 +1,16 @@
 -- What the calls on handles answer. Cited by `feed`, `feed_message`, `end` and `look` of the driver.
 use Rattle.std.specs.Prelude.{ℕ, ◌≡◌, List, Some, None, Result, Ok, Err}
 use Rattle.rent_buf.specs.Buffer.{Buffer}
-use Rattle.ring_core.specs.declared.world.Look.{Look}
-use Rattle.ring_core.specs.declared.world.WorldError.{WorldError}
-use Rattle.ring_core.specs.declared.world.WorldError.TheVariants.{BadHandleEvent, OutOfMemory}
-use Rattle.ring_core.specs.declared.ledger.Event.{Event}
-use Rattle.ring_core.specs.declared.ledger.Event.TheVariants.{Feed, FeedMessage, End, Look as Looks}
-use Rattle.ring_core.specs.declared.ledger.Reply.TheVariants.{Fed, Ended}
-use Rattle.ring_core.specs.declared.ledger.Refusal.TheVariants.{BadHandleEvent as NotTaken}
-use Rattle.ring_core.specs.Refusal.{cause}
-use Rattle.ring_core.specs.Ledger.{Ledger}
-use Rattle.ring_core.specs.Step.{step, look_reply}
+use Rattle.machine.specs.declared.world.Look.{Look}
+use Rattle.machine.specs.declared.world.WorldError.{WorldError}
+use Rattle.machine.specs.declared.world.WorldError.TheVariants.{BadHandleEvent, OutOfMemory}
+use Rattle.machine.specs.declared.ledger.Event.{Event}
+use Rattle.machine.specs.declared.ledger.Event.TheVariants.{Feed, FeedMessage, End, Look as Looks}
+use Rattle.machine.specs.declared.ledger.Reply.TheVariants.{Fed, Ended}
+use Rattle.machine.specs.declared.ledger.Refusal.TheVariants.{BadHandleEvent as NotTaken}
+use Rattle.machine.specs.Refusal.{cause}
+use Rattle.machine.specs.Ledger.{Ledger}
+use Rattle.machine.specs.Step.{step, look_reply}
 use Rattle.ring_core.specs.Ring.{RingView}
 use Rattle.uring_driver.specs.declared.uring.IoUringDriver.{IoUringDriver}
 use Rattle.uring_driver.specs.Stands.{Answers}

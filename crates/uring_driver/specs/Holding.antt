@@ -5,9 +5,9 @@ use Rattle.std.specs.Coded.{Coded, code_by, coded×, coded_ℕ}
 use Rattle.handle_core.specs.declared.table.Holders.{Holders}
 use Rattle.handle_core.specs.Table.{Table, table_code, AreHeld, holders_at, with_holders, without_handle, by_operation}
 use Rattle.handle_core.specs.Table.{without_user}
-use Rattle.ring_core.specs.declared.entry.TheConstants.{MOST_HANDLES}
-use Rattle.ring_core.specs.Ledger.{Ledger}
-use Rattle.ring_core.specs.Closes.{is_closing}
+use Rattle.machine.specs.declared.world.TheConstants.{MOST_HANDLES}
+use Rattle.machine.specs.Ledger.{Ledger}
+use Rattle.machine.specs.Closes.{is_closing}
 use Rattle.driver_core.specs.Holds.{is_nobody, settled, without_ops, unheld_by, HoldersStand}
 
 -- The holders of each handle that is held; and of each handle whose close isn't reaped, which the close holds as an operation does; and how

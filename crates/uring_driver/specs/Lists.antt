@@ -8,14 +8,15 @@ use Rattle.ring_core.specs.declared.entry.Body.{Body}
 use Rattle.ring_core.specs.declared.entry.Body.TheVariants.{Call as Calls, Cancel as Cancels, Close as Closes}
 use Rattle.ring_core.specs.declared.entry.Entry.{Entry}
 use Rattle.ring_core.specs.declared.entry.Flight.{Flight}
-use Rattle.ring_core.specs.declared.entry.Completion.{Completion}
-use Rattle.ring_core.specs.declared.entry.TheConstants.{CANCEL_WORD, FIRST_CLOSE, MOST_HANDLES}
+use Rattle.machine.specs.declared.completion.Completion.{Completion}
+use Rattle.machine.specs.declared.world.TheConstants.{MOST_HANDLES}
+use Rattle.ring_core.specs.declared.entry.TheConstants.{CANCEL_WORD, FIRST_CLOSE}
 use Rattle.ring_core.specs.declared.entry.Target.{Target}
 use Rattle.ring_core.specs.declared.entry.Target.TheVariants.{Slot as Keyed, Handle, Reserved}
 use Rattle.ring_core.specs.Entry.{target, close_entry}
-use Rattle.ring_core.specs.Request.{call_of, plain_request}
+use Rattle.machine.specs.Request.{call_of, plain_request}
 use Rattle.ring_core.specs.Ring.{RingView}
-use Rattle.ring_core.specs.Ledger.{Ledger, Queued, Req, Cancel, Item, Op, Operation, Place, InQueue, InFlight, InDone}
+use Rattle.machine.specs.Ledger.{Ledger, Queued, Req, Cancel, Item, Op, Operation, Place, InQueue, InFlight, InDone}
 use Rattle.driver_core.specs.declared.slot.Slot.{Slot}
 
 -- What an entry with a body means in the queue.

@@ -2,8 +2,8 @@
 use Rattle.std.specs.Prelude.{ℕ, ◌≡◌, ◌+◌, ◌-◌, ◌<◌, ◌||◌, nat_le, Bool, true, false, not, List, [], ◌++◌}
 use Rattle.std.specs.Prelude.{option_to_list, Option, Some, None}
 use Rattle.handle_core.specs.Table.{Table, holders_at, with_holders, handed}
-use Rattle.ring_core.specs.declared.entry.TheConstants.{MOST_HANDLES}
-use Rattle.ring_core.specs.Ranks.{one_if}
+use Rattle.machine.specs.declared.world.TheConstants.{MOST_HANDLES}
+use Rattle.machine.specs.Lists.{one_if}
 use Rattle.driver_core.specs.Holds.{is_nobody, with_ops, without_ops, unheld_by}
 use Rattle.uring_driver.specs.Holding.{Holding, places, closes, with_added, IsSameHolding}
 

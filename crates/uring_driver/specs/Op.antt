@@ -2,9 +2,9 @@
 -- the driver, and by whoever keeps tokens.
 use Rattle.std.specs.Prelude.{◌≡◌, Bool, Some}
 use Rattle.rent_buf.specs.Parts.{Parts}
-use Rattle.ring_core.specs.declared.request.Request.{Request}
-use Rattle.ring_core.specs.Surroundings.{Surroundings}
-use Rattle.ring_core.specs.declared.request.Call.{Call}
+use Rattle.machine.specs.declared.request.Request.{Request}
+use Rattle.machine.specs.Surroundings.{Surroundings}
+use Rattle.machine.specs.declared.request.Call.{Call}
 use Rattle.ring_core.specs.declared.entry.Entry.{Entry}
 use Rattle.ring_core.specs.Entry.{call_entry, cancel_entry}
 use Rattle.driver_core.specs.declared.op.Op.{Op}

@@ -2,7 +2,7 @@
 use Rattle.std.specs.Prelude.{◌≡◌, ℕ, Bool, true, List, [], Option, Some, None, ⊤, length, nat_lt}
 use Rattle.rent_buf.specs.Buffer.{Buffer}
 use Rattle.ring_core.specs.Ring.{RingView}
-use Rattle.ring_core.specs.declared.entry.Completion.{Completion}
+use Rattle.machine.specs.declared.completion.Completion.{Completion}
 use Rattle.wake_core.specs.declared.park.Woken.{Woken}
 use Rattle.wake_core.specs.Sleeping.{Sleeping, Waits, is_still}
 use Rattle.driver_core.specs.declared.driver.Parked.{Parked}

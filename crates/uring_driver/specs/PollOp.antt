@@ -1,7 +1,7 @@
 -- What a poll answers.
 use Rattle.std.specs.Prelude.{ℕ, ◌≡◌, Bool, IsTrue, ◌⊎◌, List, [], map, Option, Some, None, slice_get}
 use Rattle.rent_buf.specs.Buffer.{Buffer}
-use Rattle.ring_core.specs.Ledger.{Ledger, Operation, Place, InQueue, InFlight, InDone, Reaped, Gone}
+use Rattle.machine.specs.Ledger.{Ledger, Operation, Place, InQueue, InFlight, InDone, Reaped, Gone}
 use Rattle.ring_core.specs.Ring.{RingView}
 use Rattle.driver_core.specs.declared.op.Op.{Op}
 use Rattle.driver_core.specs.declared.op.PollOp.{PollOp}
@@ -10,7 +10,7 @@ use Rattle.driver_core.specs.Holds.{unheld_by}
 use Rattle.driver_core.specs.Members.{leaves}
 use Rattle.ring_core.specs.declared.entry.Entry.{Entry}
 use Rattle.ring_core.specs.Entry.{close_entry}
-use Rattle.ring_core.specs.Request.{named}
+use Rattle.machine.specs.Request.{named}
 use Rattle.driver_core.specs.Answers.{PollsFor as PollsBy}
 use Rattle.driver_core.specs.Operations.{PollsOp as PollsIn}
 use Rattle.driver_core.specs.Op.{PollsTokens as PollsTokensIn}
@@ -19,7 +19,7 @@ use Rattle.uring_driver.specs.declared.uring.IoUringDriver.{IoUringDriver}
 use Rattle.uring_driver.specs.Op.{ops_in, number_of}
 use Rattle.uring_driver.specs.Stands.{Stands}
 use Rattle.driver_core.specs.declared.op.Done.{Done}
-use Rattle.ring_core.specs.Effect.{made_by}
+use Rattle.machine.specs.Effect.{made_by}
 use Rattle.uring_driver.specs.Holding.{Holding, ops_left}
 use Rattle.uring_driver.specs.Making.{handed_if}
 pub use Rattle.driver_core.specs.Op.{IsPending}

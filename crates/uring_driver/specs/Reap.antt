@@ -4,9 +4,9 @@ use Rattle.std.specs.Prelude.{Option, Some, None, vec_len}
 use Rattle.std.specs.Prelude.{vec_capacity}
 use Rattle.std.specs.Ordering.{nat_cmp}
 use Rattle.std.specs.FinMap as map
-use Rattle.ring_core.specs.declared.entry.Completion.{Completion}
-use Rattle.ring_core.specs.declared.request.Outcome.{Outcome}
-use Rattle.ring_core.specs.Effect.{made_by}
+use Rattle.machine.specs.declared.completion.Completion.{Completion}
+use Rattle.machine.specs.declared.request.Outcome.{Outcome}
+use Rattle.machine.specs.Effect.{made_by}
 use Rattle.ring_core.specs.declared.entry.Target.{Target}
 use Rattle.ring_core.specs.declared.entry.Target.TheVariants.{Slot as Keyed, Handle, Reserved}
 use Rattle.ring_core.specs.Entry.{target}

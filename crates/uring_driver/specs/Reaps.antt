@@ -2,11 +2,11 @@
 use Rattle.std.specs.Prelude.{ℕ, ◌≡◌, ◌+◌, ◌<◌, ◌≤◌, ◌⊎◌, Bool, true, IsTrue, List, [], ◌∷◌, ◌++◌, length, map, Option, Some, None}
 use Rattle.std.specs.Ordering.{nat_cmp}
 use Rattle.std.specs.FinMap.{FinMap}
-use Rattle.ring_core.specs.declared.entry.TheConstants.{MOST_HANDLES}
+use Rattle.machine.specs.declared.world.TheConstants.{MOST_HANDLES}
 use Rattle.ring_core.specs.declared.entry.Entry.{Entry}
-use Rattle.ring_core.specs.declared.entry.Completion.{Completion}
+use Rattle.machine.specs.declared.completion.Completion.{Completion}
 use Rattle.ring_core.specs.Entry.{close_entry}
-use Rattle.ring_core.specs.Lists.{has_number}
+use Rattle.machine.specs.Lists.{has_number}
 use Rattle.ring_core.specs.Ring.{RingView, IsLater, pushed, with_done}
 use Rattle.op_slots.specs.Slots.{Slots}
 use Rattle.driver_core.specs.declared.slot.Slot.{Slot}

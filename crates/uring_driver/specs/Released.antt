@@ -3,9 +3,9 @@ use Rattle.std.specs.Prelude.{ℕ, ◌≡◌, ◌+◌, ◌<◌, ◌≤◌, ◌==
 use Rattle.std.specs.FinMap as map
 use Rattle.rent_buf.specs.Buffer.{Buffer}
 use Rattle.handle_core.specs.Table.{by_user}
-use Rattle.ring_core.specs.declared.ledger.Event.TheVariants.{Close}
-use Rattle.ring_core.specs.declared.ledger.Reply.TheVariants.{Released}
-use Rattle.ring_core.specs.Ledger.{Ledger}
+use Rattle.machine.specs.declared.ledger.Event.TheVariants.{Close}
+use Rattle.machine.specs.declared.ledger.Reply.TheVariants.{Released}
+use Rattle.machine.specs.Ledger.{Ledger}
 use Rattle.ring_core.specs.Ring.{RingView}
 use Rattle.uring_driver.specs.declared.uring.IoUringDriver.{IoUringDriver}
 use Rattle.uring_driver.specs.Holding.{Holding, places}

@@ -5,11 +5,11 @@ use Rattle.rent_buf.specs.Buffer.{Buffer}
 use Rattle.rent_buf.specs.Parts.{Parts}
 use Rattle.op_slots.specs.Slots.{Slots}
 use Rattle.op_slots.specs.declared.slab.TheConstants.{MAX_LIVE}
-use Rattle.ring_core.specs.declared.request.Request.{Request}
-use Rattle.ring_core.specs.Counts.{Rose}
+use Rattle.machine.specs.declared.request.Request.{Request}
+use Rattle.machine.specs.Counts.{Rose}
 use Rattle.ring_core.specs.declared.entry.Entry.{Entry}
-use Rattle.ring_core.specs.Request.{named, makes, call_of, plain_request}
-use Rattle.ring_core.specs.Ledger.{Ledger}
+use Rattle.machine.specs.Request.{named, makes, call_of, plain_request}
+use Rattle.machine.specs.Ledger.{Ledger}
 use Rattle.ring_core.specs.Ring.{RingView}
 use Rattle.driver_core.specs.declared.op.Op.{Op as Token}
 use Rattle.driver_core.specs.declared.op.Submitted.{Submitted}

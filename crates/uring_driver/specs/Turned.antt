@@ -1,13 +1,13 @@
 -- What a turn answers, and why it stops.
 use Rattle.std.specs.Prelude.{ℕ, ◌≡◌, ◌+◌, ◌≤◌, Bool, IsTrue, List, [], ◌++◌, length, Option, Some, None, ⊤, take, drop}
 use Rattle.rent_buf.specs.Buffer.{Buffer}
-use Rattle.ring_core.specs.declared.ledger.Event.TheVariants.{Turn}
-use Rattle.ring_core.specs.declared.ledger.Reply.TheVariants.{Turned as TurnReply}
-use Rattle.ring_core.specs.declared.entry.Completion.{Completion}
-use Rattle.ring_core.specs.Counts.{Rose}
-use Rattle.ring_core.specs.Ledger.{Ledger}
-use Rattle.ring_core.specs.Queue.{take_each, take_all}
-use Rattle.ring_core.specs.Turn.{reap_each, ops_in, closes_in, tasks_woken}
+use Rattle.machine.specs.declared.ledger.Event.TheVariants.{Turn}
+use Rattle.machine.specs.declared.ledger.Reply.TheVariants.{Turned as TurnReply}
+use Rattle.machine.specs.declared.completion.Completion.{Completion}
+use Rattle.machine.specs.Counts.{Rose}
+use Rattle.machine.specs.Ledger.{Ledger}
+use Rattle.machine.specs.Queue.{take_each, take_all}
+use Rattle.machine.specs.Turn.{reap_each, ops_in, closes_in, tasks_woken}
 use Rattle.ring_core.specs.Ring.{RingView}
 use Rattle.driver_core.specs.declared.op.Stop.{Stop}
 use Rattle.driver_core.specs.declared.op.Stop.TheVariants.{RingFault, Busy, BadCompletion, Os, OutOfMemory}

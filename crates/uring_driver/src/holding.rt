@@ -3,14 +3,14 @@ ghost use Rattle.std.specs.Prelude.{◌≡◌, ◌<◌, ◌+◌, ◌↔◌, ◌|
 ghost use Rattle.std.specs.FinMap as map;
 ghost use Rattle.handle_core.specs.Table.{IsHeld, holders_at, with_holders, without_handle, by_user, with_user, without_user};
 ghost use Rattle.handle_core.specs.Table.{with_operation};
-ghost use Rattle.ring_core.specs.Request.{listed};
+ghost use Rattle.machine.specs.Request.{listed};
 ghost use Rattle.driver_core.specs.Holds.{is_nobody, left_holders, with_ops, CanJoin};
 ghost use Rattle.uring_driver.specs.Holding.{closes, knows, user_count, is_users, settle, user_left, close_reaped, places, no_holding};
 ghost use Rattle.uring_driver.specs.Making.{KeepsHolding, CanMake, op_joined, kept_if, lost_if, maker_ended, made_handed, is_old};
-ghost use Rattle.ring_core.specs.Ranks.{one_if};
+ghost use Rattle.machine.specs.Lists.{one_if};
 
 use handle_core::{HandleTable, MAX_HOLDS, OutOfMemory, Released};
-use ring_core::{MOST_HANDLES, Names};
+use machine::{MOST_HANDLES, Names};
 use std::alloc::Global;
 use std::marker::Model;
 

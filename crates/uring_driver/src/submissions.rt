@@ -2,7 +2,7 @@
 ghost use Rattle.std.specs.Prelude.{◌≡◌, ◌≤◌, ◌<◌, ◌+◌, ◌^◌, ◌++◌, ◌↔◌, [], ◌∷◌, length, Some, None, IsTrue};
 ghost use Rattle.std.specs.Prelude.{IfSome, IfNone, IfOk, IfErr, OnOk, OnErr};
 ghost use Rattle.ring_core.specs.Ring.{IsLater, NextFor, entered, pushed};
-ghost use Rattle.ring_core.specs.World.{fresh, look_at, WorldFeeds, WorldFeedsMessage, WorldEnds};
+ghost use Rattle.machine.specs.World.{fresh, look_at, WorldFeeds, WorldFeedsMessage, WorldEnds};
 ghost use Rattle.ring_core.specs.Lends.{with_world};
 ghost use Rattle.ring_core.specs.Entry.{may_link};
 ghost use Rattle.ring_core.specs.MemRing.{ExecutesFor};
@@ -10,11 +10,9 @@ ghost use Rattle.uring_driver.specs.Finish.{over_ring, injected};
 ghost use Rattle.uring_driver.specs.Submissions.{with_spare, room_made, pending_ring, expected_in, IsSameButWorld};
 ghost use Rattle.uring_driver.specs.Submissions.{Enters, EnteredFor, MustEnter, KeptOut, Posts};
 
+use machine::{Completion, HandleKind, Look, MOST_HANDLES, Payloads, Told, WorldError};
 use rent_buf::OutOfMemory;
-use ring_core::{
-    Completion, EnterError, Entry, ExecRefusal, FaultRing, HandleKind, Look, MOST_HANDLES, MemRing,
-    Payloads, Push, Ring, Told, WorldError, make_room,
-};
+use ring_core::{EnterError, Entry, ExecRefusal, FaultRing, MemRing, Push, Ring, make_room};
 use std::alloc::Global;
 use std::collections::VecDeque;
 use std::marker::Model;

@@ -2,11 +2,11 @@
 ghost use Rattle.std.specs.Prelude.{◌≡◌, ◌≤◌, ◌<◌, ◌+◌, ◌↔◌, ℕ, true, false, [], ◌∷◌, Option, IsTrue, IfSome, IfOk, IfErr, OnOk, OnErr};
 ghost use Rattle.std.specs.Prelude.{length};
 ghost use Rattle.std.specs.FinMap as map;
-ghost use Rattle.ring_core.specs.Request.{named};
+ghost use Rattle.machine.specs.Request.{named};
 ghost use Rattle.ring_core.specs.Ring.{IsLater};
-ghost use Rattle.ring_core.specs.Ledger.{Ledger, empty};
-ghost use Rattle.ring_core.specs.declared.ledger.Event.TheVariants.{Drop, Cancel};
-ghost use Rattle.ring_core.specs.declared.ledger.Reply.TheVariants.{Dropped, Asked};
+ghost use Rattle.machine.specs.Ledger.{Ledger, empty};
+ghost use Rattle.machine.specs.declared.ledger.Event.TheVariants.{Drop, Cancel};
+ghost use Rattle.machine.specs.declared.ledger.Reply.TheVariants.{Dropped, Asked};
 ghost use Rattle.driver_core.specs.declared.op.Op.{Op as Token};
 ghost use Rattle.uring_driver.specs.Op.{number_of, cancel_for, Holds, HoldsNone, KeepsTokens, DropsToken, KeepsRequests};
 ghost use Rattle.uring_driver.specs.Submissions.{IsIdle, TakesFront, PendingMoves, PendingMovesEach, with_spare, room_made, pending_ring};
@@ -16,7 +16,7 @@ ghost use Rattle.driver_core.specs.Answers.{IsUnder};
 ghost use Rattle.driver_core.specs.Groups.{is_under_canceled, joins_if, AreInSlots};
 ghost use Rattle.driver_core.specs.Members.{none, leaves};
 ghost use Rattle.uring_driver.specs.Stands.{Stands, Answers};
-ghost use Rattle.ring_core.specs.Ranks.{one_if};
+ghost use Rattle.machine.specs.Lists.{one_if};
 ghost use Rattle.uring_driver.specs.Holding.{places, knows, no_holding};
 ghost use Rattle.uring_driver.specs.Making.{KeepsHolding, CanMake};
 ghost use Rattle.uring_driver.specs.Dropped.{DropsOp};
@@ -32,10 +32,11 @@ use crate::uring::turn::Named;
 use driver_core::{
     CancelHandle, MOST_GIVEN, Members, Op, Operations, PollOp, SubmitError, SubmitFault, Submitted,
 };
+use machine::Request;
 use op_slots::AfterDrop;
 use op_slots::slab::MAX_LIVE;
 use rent_buf::{IoBufMut, OutOfMemory, VecBuf};
-use ring_core::{EnterError, Entry, Request, Ring};
+use ring_core::{EnterError, Entry, Ring};
 use std::alloc::Global;
 use std::marker::Model;
 

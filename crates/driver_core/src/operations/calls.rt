@@ -3,9 +3,9 @@ ghost use Rattle.std.specs.Prelude.{◌≡◌, IsSome};
 ghost use Rattle.std.specs.FinMap as map;
 ghost use Rattle.rent_buf.specs.Buffer.{Buffer};
 ghost use Rattle.rent_buf.specs.Parts.{Parts};
-ghost use Rattle.ring_core.specs.Request.{plain_request};
-ghost use Rattle.ring_core.specs.Surroundings.{around, request_around};
-ghost use Rattle.ring_core.specs.declared.request.Request.{Request};
+ghost use Rattle.machine.specs.Request.{plain_request};
+ghost use Rattle.machine.specs.Surroundings.{around, request_around};
+ghost use Rattle.machine.specs.declared.request.Request.{Request};
 ghost use Rattle.driver_core.specs.declared.operations.calls.CallAnswer.{CallAnswer};
 ghost use Rattle.driver_core.specs.Calls.{CallsSlot, CallsOp};
 ghost use Rattle.driver_core.specs.Op.{Holds, KeepsTokens};
@@ -15,9 +15,9 @@ ghost use Rattle.driver_core.specs.Slot.{KeepsNumbers};
 use crate::op::Op;
 use crate::operations::Operations;
 use crate::slot::Slot;
+use machine::{Outcome, Request};
 use op_slots::Slab;
 use rent_buf::{IoBufMut, VecBuf};
-use ring_core::{Outcome, Request};
 
 /// What a call that is made at once answers. (monoio: the `io::Result` of a `legacy_call`)
 #[derive(Clone, Copy, Debug, PartialEq, Eq)]

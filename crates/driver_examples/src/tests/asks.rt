@@ -1,8 +1,8 @@
 // The requests that tests submit, and what these hold.
+use machine::{Request, SharedFd};
 use rent_buf::{
     Buf, BufSpec, ByteList, Held, IoBuf, IoVecBuf, Kind, OutOfMemory, PartsSpec, VecBuf,
 };
-use ring_core::{Request, SharedFd};
 use std::alloc::Global;
 
 /// Why a call of a driver wasn't made, or what became of it that no test expects.

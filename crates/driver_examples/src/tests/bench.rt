@@ -1,6 +1,6 @@
 // A driver over any ring, with the tokens of its operations.
 ghost use Rattle.std.specs.Prelude.{◌<◌, IsTrue, IfSome, IfOk};
-ghost use Rattle.ring_core.specs.Request.{listed, named};
+ghost use Rattle.machine.specs.Request.{listed, named};
 ghost use Rattle.uring_driver.specs.Op.{Holds};
 ghost use Rattle.uring_driver.specs.Uring.{holds_all, given_by, group_count};
 
@@ -8,8 +8,9 @@ use crate::tests::asks::{Ask, Makes, Why, has_bytes};
 use crate::tests::stage::{Polls, Stage, Submits};
 use crate::turn_twice;
 use handle_core::{MAX_HOLDS, Released};
+use machine::{MOST_HANDLES, Names, Request, SharedFd};
 use rent_buf::{IoBuf, IoBufMut, NumList, VecBuf};
-use ring_core::{MOST_HANDLES, Names, Request, Ring, SharedFd};
+use ring_core::Ring;
 use std::alloc::Global;
 use std::rt::Clock;
 use std::sync::Wait;

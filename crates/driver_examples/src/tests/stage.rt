@@ -2,8 +2,8 @@
 // were submitted before it.
 use crate::tests::asks::{Ask, Why};
 use handle_core::Released;
+use machine::Outcome;
 use rent_buf::NumList;
-use ring_core::Outcome;
 use std::rt::Clock;
 use std::sync::Wait;
 use std::sync::ledger::Ledger;

@@ -2,7 +2,7 @@
 use crate::tests::asks::{Ask, Asks, Why};
 use crate::tests::stage::{Polls, Stage, Submits};
 use handle_core::Released;
-use ring_core::{HandleKind, Outcome, Told, WorldError};
+use machine::{HandleKind, Outcome, Told, WorldError};
 use std::process::Abort;
 use uring_driver::{Executed, Stop, Turned};
 

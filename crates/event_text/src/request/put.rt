@@ -3,12 +3,12 @@ ghost use Rattle.std.specs.Prelude.{◌≡◌, [], ◌∷◌, ◌++◌, decimal,
 ghost use Rattle.event_text.specs.TextWrites.{Starts};
 ghost use Rattle.event_text.specs.TextRequest.{request_words, buffer_words, parts_words};
 ghost use Rattle.event_text.specs.TextWords.{spaced};
-ghost use Rattle.ring_core.specs.declared.request.Request.TheVariants.{SendMsg, Open, Fsync, PollAdd, MkDir, Rename, Unlink};
+ghost use Rattle.machine.specs.declared.request.Request.TheVariants.{SendMsg, Open, Fsync, PollAdd, MkDir, Rename, Unlink};
 
 use crate::buffer::{put_buffer, put_parts};
 use crate::word::{put, put_byte, put_counted, put_next_address, put_next_bytes, put_next_number};
+use machine::Request;
 use rent_buf::{BufSpec, OutOfMemory, PartsSpec};
-use ring_core::Request;
 
 /// Appends the words of a request.
 pub(crate) fn put_request(

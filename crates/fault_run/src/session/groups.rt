@@ -4,8 +4,8 @@ ghost use Rattle.fault_run.specs.Events.{CancelsGroup, HasGroup, MakesCanceller,
 
 use super::{FaultSession, refused};
 use crate::answer::Answer;
+use machine::{Refusal, Reply};
 use rent_buf::OutOfMemory;
-use ring_core::{Refusal, Reply};
 
 impl FaultSession {
     // A canceller is created. The memory of its place is taken before the driver changes.

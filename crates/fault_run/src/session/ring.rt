@@ -6,8 +6,9 @@ ghost use Rattle.fault_run.specs.Steps as steps;
 
 use super::FaultSession;
 use crate::answer::{Answer, Shown};
+use machine::{Completion, Outcome, Told};
 use rent_buf::{NumList, OutOfMemory};
-use ring_core::{Completion, MemRing, Outcome, Ring, Told};
+use ring_core::{MemRing, Ring};
 use std::alloc::Global;
 
 impl FaultSession {

@@ -1,15 +1,16 @@
 //! The submission of a request, under a cancel handle or none.
 ghost use Rattle.std.specs.Prelude.{ℕ, Option, Some, ◌≡◌, ◌<◌, IfOk, IfSome, IsTrue, MatchResult};
 ghost use Rattle.rent_buf.specs.Buf.{built};
-ghost use Rattle.ring_core.specs.Request.{named, plain_request};
+ghost use Rattle.machine.specs.Request.{named, plain_request};
 ghost use Rattle.driver_core.specs.Tokens.{HasRoom};
 ghost use Rattle.uring_driver.specs.Uring.{given_by, group_count, holds_all};
 ghost use Rattle.fault_run.specs.Events.{IsGroupOf, StepsSubmit, StepsUnder, SubmitsOwn, driver_in, refused_answer, tokens_in};
 
 use super::{FaultSession, plain_held, refused};
 use crate::answer::Answer;
+use machine::{Refusal, Reply, Request};
 use rent_buf::{Buf, BufSpec, OutOfMemory, PartsSpec, VecBuf};
-use ring_core::{EnterError, Refusal, Reply, Request};
+use ring_core::EnterError;
 use uring_driver::{CancelHandle, MOST_GIVEN, SubmitError, SubmitFault, Submitted};
 
 impl FaultSession {

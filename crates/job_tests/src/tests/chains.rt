@@ -6,10 +6,10 @@ ghost use Rattle.op_job.specs.Runs.{SaysAny};
 ghost use Rattle.ready_driver.specs.LegacyState.{ops_in};
 
 use core_exec::Exec;
+use machine::{CANCELED, HandleKind, MOST_HANDLES, Outcome, Request, SharedFd};
 use op_job::{Follow, JobEnd, Next, Once, OpEnd, OpExec, OpJob, abandon_all, turn};
 use ready_driver::{LegacyDriver, MemIo};
 use rent_buf::{Rent, VecBuf};
-use ring_core::{CANCELED, HandleKind, MOST_HANDLES, Outcome, Request, SharedFd};
 use std::alloc::Global;
 use std::test::Fail;
 

@@ -3,10 +3,11 @@ ghost use Rattle.std.specs.Prelude.{IfSome};
 ghost use Rattle.driver_core.specs.Op.{Holds};
 
 use driver_core::{MOST_GIVEN, Op, PollOp};
+use machine::{CANCELED, HandleKind, MOST_HANDLES, Outcome, Request, SharedFd};
 use op_driver::OpDriver;
 use ready_driver::{LegacyDriver, MemIo};
 use rent_buf::{Rent, VecBuf};
-use ring_core::{CANCELED, HandleKind, MOST_HANDLES, MemRing, Outcome, Request, SharedFd};
+use ring_core::MemRing;
 use std::alloc::Global;
 use std::test::Fail;
 use uring_driver::IoUringDriver;

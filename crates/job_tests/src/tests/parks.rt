@@ -3,10 +3,10 @@ ghost use Rattle.core_exec.specs.Exec.{IsSound, Stands};
 ghost use Rattle.pipe_job.specs.PipeJob.{ApartPipes, FitsPipe, cancels_of, polls_of};
 
 use core_exec::Exec;
+use machine::{HandleKind, MOST_HANDLES, SharedFd};
 use pipe_job::{PipeExec, PipeJob, abandon_all, park, turn};
 use ready_driver::{LegacyDriver, MemIo};
 use rent_buf::{ByteList, Rent};
-use ring_core::{HandleKind, MOST_HANDLES, SharedFd};
 use std::alloc::Global;
 use std::sync::Wait;
 use std::sync::ledger::Ledger;

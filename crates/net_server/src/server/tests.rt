@@ -4,9 +4,9 @@ use crate::fault::{NetFault, ServerFault};
 use crate::lines::{Answer, ByLines, Lines};
 use crate::net_job::NetEnd;
 use crate::server::{Limits, Server};
+use machine::Look;
 use ready_driver::{LegacyDriver, MemIo};
 use rent_buf::OutOfMemory;
-use ring_core::Look;
 use std::alloc::Global;
 use std::test::Fail;
 

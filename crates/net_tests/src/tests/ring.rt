@@ -4,9 +4,10 @@ ghost use Rattle.uring_driver.specs.Op.{ops_in};
 
 use crate::tests::{get, put, step};
 use handle_core::SharedFd;
+use machine::{HandleKind, MOST_HANDLES, Told};
 use net_stream::Connection;
 use rent_buf::Rent;
-use ring_core::{HandleKind, MOST_HANDLES, MemRing, Told};
+use ring_core::MemRing;
 use std::alloc::Global;
 use std::test::Fail;
 use uring_driver::IoUringDriver;

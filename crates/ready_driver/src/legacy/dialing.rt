@@ -1,6 +1,6 @@
 //! The handles that a readiness driver opens: listeners, and connections that it dials.
 ghost use Rattle.std.specs.Prelude.{◌≡◌, false, not, IsTrue};
-ghost use Rattle.ring_core.specs.declared.world.HandleKind.TheVariants.{Listener, Stream};
+ghost use Rattle.machine.specs.declared.world.HandleKind.TheVariants.{Listener, Stream};
 ghost use Rattle.ready_driver.specs.Dialing.{OpensFor};
 ghost use Rattle.ready_driver.specs.LegacyState.{SameOps};
 ghost use Rattle.ready_driver.specs.Registry.{is_old};

@@ -1,7 +1,7 @@
 //! The calls of a readiness driver on handles: who holds them, and when they are closed.
 ghost use Rattle.std.specs.Prelude.{◌≡◌, ◌<◌, ◌↔◌, true, false, [], IsTrue, IfOk, OnOk, OnErr};
 ghost use Rattle.handle_core.specs.Table.{holders_at, with_holders, with_user, without_user};
-ghost use Rattle.ring_core.specs.Request.{listed};
+ghost use Rattle.machine.specs.Request.{listed};
 ghost use Rattle.driver_core.specs.Holds.{is_nobody, settled};
 ghost use Rattle.ready_driver.specs.Legacy.{Legacy};
 ghost use Rattle.ready_driver.specs.LegacyState.{SameOps, holds_all};
@@ -13,8 +13,8 @@ use crate::legacy::LegacyDriver;
 use crate::non_block::NonBlock;
 use crate::ready::Ready;
 use handle_core::{MAX_HOLDS, Released, SharedFd};
+use machine::{MOST_HANDLES, Names};
 use rent_buf::{IoBufMut, OutOfMemory};
-use ring_core::{MOST_HANDLES, Names};
 
 impl<I: NonBlock, B: IoBufMut + Drop> LegacyDriver<I, B> {
     /// The user holds a handle of this number, below `MOST_HANDLES`, which wasn't known. The memory for it is taken first: if that runs

@@ -1,8 +1,8 @@
 //! The calls of a readiness driver over handles in memory.
 ghost use Rattle.std.specs.Prelude.{◌≡◌, ◌<◌, ◌&&◌, nat_lt, true, false, [], IfOk, OnOk, OnErr, length};
-ghost use Rattle.ring_core.specs.World.{fresh, look_at, WorldFeeds, WorldFeedsMessage, WorldEnds};
-ghost use Rattle.ring_core.specs.declared.ledger.Event.TheVariants.{Give};
-ghost use Rattle.ring_core.specs.declared.ledger.Reply.TheVariants.{Handle};
+ghost use Rattle.machine.specs.World.{fresh, look_at, WorldFeeds, WorldFeedsMessage, WorldEnds};
+ghost use Rattle.machine.specs.declared.ledger.Event.TheVariants.{Give};
+ghost use Rattle.machine.specs.declared.ledger.Reply.TheVariants.{Handle};
 ghost use Rattle.ready_driver.specs.Legacy.{Legacy};
 ghost use Rattle.ready_driver.specs.LegacyHandles.{FeedsFor, FeedsMessageFor, EndsFor, LooksFor};
 ghost use Rattle.ready_driver.specs.LegacyStands.{LegacyStands, LegacyAnswers};
@@ -13,8 +13,8 @@ ghost use Rattle.ready_driver.specs.Registry.{is_known, is_users, IsSameButRoom,
 use crate::legacy::LegacyDriver;
 use crate::mem_io::MemIo;
 use handle_core::SharedFd;
+use machine::{HandleKind, Look, MOST_HANDLES, WorldError};
 use rent_buf::{IoBufMut, OutOfMemory};
-use ring_core::{HandleKind, Look, MOST_HANDLES, WorldError};
 
 impl<B: IoBufMut + Drop> LegacyDriver<MemIo, B> {
     /// How many handles there are in memory. (not in monoio)

@@ -1,6 +1,6 @@
 //! Turns and parks of the readiness driver.
 ghost use Rattle.std.specs.Prelude.{◌≡◌, ◌+◌, [], length, true, false, Some, None, IsTrue, IfNone, OnOk, OnErr};
-ghost use Rattle.ring_core.specs.Ledger.{Ledger};
+ghost use Rattle.machine.specs.Ledger.{Ledger};
 ghost use Rattle.wake_core.specs.WakerList.{IsInOrder};
 ghost use Rattle.ready_driver.specs.LegacyState.{KeepsRequests};
 ghost use Rattle.ready_driver.specs.LegacyTurns.{LegacyTurns, LooksWithin, ParksIn, TurnsBy, Treats, ShowsLedger, DrainsFor};
@@ -10,8 +10,8 @@ use crate::legacy::LegacyDriver;
 use crate::non_block::{NonBlock, NonBlockError, Reports};
 use crate::registry::Registry;
 use driver_core::{Driver, Parked, Stop, Turned};
+use machine::Outcome;
 use rent_buf::{IoBufMut, NumList, OutOfMemory};
-use ring_core::Outcome;
 use std::mem;
 use std::sync::Wait;
 use std::sync::ledger::Ledger as CountLedger;

@@ -1,7 +1,7 @@
 // Handles that the object opens: listeners, and connections that are dialled.
 ghost use Rattle.std.specs.Prelude.{◌≡◌, ◌⊎◌, true, false, OnOk, IfErr};
-ghost use Rattle.ring_core.specs.declared.world.call.TheConstants.{INVALID};
-ghost use Rattle.ring_core.specs.declared.world.HandleKind.TheVariants.{Listener, Stream};
+ghost use Rattle.machine.specs.declared.world.call.TheConstants.{INVALID};
+ghost use Rattle.machine.specs.declared.world.HandleKind.TheVariants.{Listener, Stream};
 ghost use Rattle.ready_driver.specs.Dialing.{OpensFor};
 ghost use Rattle.ready_driver.specs.Registry.{is_old, HasMadeRoom, IsSameButRoom};
 
@@ -9,7 +9,7 @@ use crate::non_block::NonBlockError;
 use crate::registry::Registry;
 use crate::sockets::Sockets;
 use handle_core::SharedFd;
-use ring_core::INVALID;
+use machine::INVALID;
 
 impl<I: Sockets> Registry<I> {
     /// A new listener on a port, which the user holds. (not in monoio)

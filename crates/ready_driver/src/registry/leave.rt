@@ -1,7 +1,7 @@
 // What the leaving of a holder does to handles: one that nobody holds any more isn't registered, is closed, and has no record.
 ghost use Rattle.std.specs.Prelude.{◌≡◌, ◌<◌, ◌↔◌, true, [], ◌∷◌};
 ghost use Rattle.handle_core.specs.Table.{holders_at, without_user};
-ghost use Rattle.ring_core.specs.Request.{listed};
+ghost use Rattle.machine.specs.Request.{listed};
 ghost use Rattle.driver_core.specs.Holds.{is_nobody, settled, without_ops, unheld_by, CanLeave};
 ghost use Rattle.ready_driver.specs.Io.{IsStill, closes_after};
 ghost use Rattle.ready_driver.specs.Registry.{is_users, unheld_if, without_keys, LetsGo};
@@ -9,7 +9,7 @@ ghost use Rattle.ready_driver.specs.Registry.{is_users, unheld_if, without_keys,
 use crate::non_block::NonBlock;
 use crate::registry::Registry;
 use handle_core::Released;
-use ring_core::Names;
+use machine::Names;
 
 impl<I: NonBlock> Registry<I> {
     /// The user drops one of its holds of a handle. It is `Last` exactly if nobody holds the handle any more: then the handle isn't

@@ -1,6 +1,6 @@
 // The calls of handles in memory.
 ghost use Rattle.std.specs.Prelude.{◌≡◌, ◌<◌, true, false, length, IfOk, OnOk, OnErr};
-ghost use Rattle.ring_core.specs.World.{look_at, WorldFeeds, WorldFeedsMessage, WorldEnds};
+ghost use Rattle.machine.specs.World.{look_at, WorldFeeds, WorldFeedsMessage, WorldEnds};
 ghost use Rattle.ready_driver.specs.Io.{KeepsShown};
 ghost use Rattle.ready_driver.specs.MemIo.{memory_view};
 ghost use Rattle.ready_driver.specs.Registry.{is_known, IsSameButRoom, GivesUser, with_created, with_world};
@@ -8,8 +8,8 @@ ghost use Rattle.ready_driver.specs.Registry.{is_known, IsSameButRoom, GivesUser
 use crate::mem_io::MemIo;
 use crate::registry::Registry;
 use handle_core::SharedFd;
+use machine::{HandleKind, Look, WorldError};
 use rent_buf::OutOfMemory;
-use ring_core::{HandleKind, Look, WorldError};
 
 impl Registry<MemIo> {
     /// How many handles there are in memory. (not in monoio)

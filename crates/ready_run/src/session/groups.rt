@@ -1,11 +1,11 @@
 //! The events of cancellers and their groups.
-ghost use Rattle.ring_core.specs.declared.ledger.Event.TheVariants.{NewCanceller, NewHandle, CancelAll};
+ghost use Rattle.machine.specs.declared.ledger.Event.TheVariants.{NewCanceller, NewHandle, CancelAll};
 ghost use Rattle.ready_driver.specs.Legacy.{Legacy};
 ghost use Rattle.ready_run.specs.ReadySession.{SessionStands, StepsFor};
 
 use super::ReadySession;
+use machine::{Refusal, Reply};
 use rent_buf::OutOfMemory;
-use ring_core::{Refusal, Reply};
 
 impl ReadySession {
     // A canceller is created. The memory of its place is taken before the driver changes.

@@ -1,9 +1,9 @@
 //! The submission of a request, under a cancel handle or none.
 ghost use Rattle.std.specs.Prelude.{ℕ, Option, false, ◌≡◌, ◌<◌, IfSome, IfNone, IfOk, OnErr, IsTrue};
 ghost use Rattle.rent_buf.specs.Buf.{built};
-ghost use Rattle.ring_core.specs.Request.{named, plain_request};
-ghost use Rattle.ring_core.specs.Ledger.{is_under_marked};
-ghost use Rattle.ring_core.specs.declared.ledger.Event.TheVariants.{Submit};
+ghost use Rattle.machine.specs.Request.{named, plain_request};
+ghost use Rattle.machine.specs.Ledger.{is_under_marked};
+ghost use Rattle.machine.specs.declared.ledger.Event.TheVariants.{Submit};
 ghost use Rattle.driver_core.specs.Answers.{IsUnder};
 ghost use Rattle.driver_core.specs.Tokens.{HasRoom};
 ghost use Rattle.ready_driver.specs.Legacy.{Legacy, seen};
@@ -14,9 +14,9 @@ ghost use Rattle.ready_run.specs.Submission.{FindsFor};
 
 use super::{ReadySession, plain_held};
 use driver_core::{CancelHandle, MOST_GIVEN, Submitted};
+use machine::{Refusal, Reply, Request};
 use op_slots::slab::MAX_LIVE;
 use rent_buf::{Buf, BufSpec, OutOfMemory, PartsSpec, VecBuf};
-use ring_core::{Refusal, Reply, Request};
 
 impl ReadySession {
     // A copy of a request is submitted.

@@ -3,9 +3,9 @@ use crate::tests::scene::{Scene, play_on};
 use crate::tests::stage::{
     Asked, Stage, Why, failed, filled, finish, is_like, moved, pends, receive, run, send,
 };
+use machine::{Outcome, Request, SharedFd};
 use ready_driver::NonBlockError;
 use rent_buf::{IoBuf as _, Rent};
-use ring_core::{Outcome, Request, SharedFd};
 use socket_io::MioIo;
 use std::alloc::Global;
 use std::test::Fail;

@@ -2,8 +2,8 @@
 use crate::tests::dials::{accepts, dials, listens};
 use crate::tests::scene::{Scene, play_on};
 use crate::tests::stage::{Stage, Why, failed, is_like, run};
+use machine::{Request, SharedFd};
 use ready_driver::NonBlockError;
-use ring_core::{Request, SharedFd};
 use socket_io::MioIo;
 use std::net::{Ipv4Addr, SocketAddr, UdpSocket};
 use std::test::Fail;

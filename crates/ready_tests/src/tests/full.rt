@@ -2,7 +2,7 @@
 use crate::tests::scene::{Scene, play_on};
 use crate::tests::sockets::connects;
 use crate::tests::stage::{Stage, Why, failed, filled, finish, is_like, run, send};
-use ring_core::{CANCELED, Outcome};
+use machine::{CANCELED, Outcome};
 use socket_io::MioIo;
 use std::alloc::Global;
 use std::test::Fail;

@@ -9,9 +9,9 @@ use Step::{
     Bits, Cancel, Drop as Drops, Ends, Feed, Handle, Live, Pends, Read, Release, Stream, Turn,
 };
 use handle_core::{Released, SharedFd};
+use machine::{CANCELED, HandleKind, MOST_HANDLES, Outcome};
 use ready_driver::{LegacyDriver, MemIo, NonBlock, Reports};
 use rent_buf::Rent;
-use ring_core::{CANCELED, HandleKind, MOST_HANDLES, Outcome};
 use std::alloc::Global;
 use std::marker::Brand;
 use std::process::Abort;

@@ -3,9 +3,9 @@
 use crate::tests::named::{Bit, union};
 use crate::tests::stage::{Why, is_like};
 use driver_core::CallAnswer;
+use machine::{HandleKind, Outcome, Request, SharedFd};
 use ready_driver::{MemIo, NonBlock, Report, Reports, Sockets};
 use rent_buf::{Rent, VecBuf};
-use ring_core::{HandleKind, Outcome, Request, SharedFd};
 use std::alloc::Global;
 use std::process::Abort;
 

@@ -2,9 +2,9 @@
 use crate::tests::bench::Opens;
 use crate::tests::stage::{Asked, Why, filled, receive, send};
 use driver_core::{CallAnswer, Calls as _};
+use machine::{INVALID, Outcome, Request, SharedFd};
 use ready_driver::{NonBlock, NonBlockError, Report, Reports, Sockets};
 use rent_buf::{IoBuf as _, Rent};
-use ring_core::{INVALID, Outcome, Request, SharedFd};
 use socket_io::MioIo;
 use socket_io::mio_io::UNSUPPORTED;
 use std::alloc::Global;

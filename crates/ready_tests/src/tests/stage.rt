@@ -1,9 +1,9 @@
 // What tests do with a driver over any object: each call here makes one call of the driver, and answers plain values. An operation is
 // named by its place, 0 or 1.
 use driver_core::{Done, Turned};
+use machine::{Outcome, Request, SharedFd};
 use ready_driver::{NonBlockError, Ready};
 use rent_buf::{IoBufMut as _, OutOfMemory, Rent, VecBuf};
-use ring_core::{Outcome, Request, SharedFd};
 use std::alloc::Global;
 use wake_core::Woken;
 

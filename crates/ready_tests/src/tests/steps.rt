@@ -2,8 +2,8 @@
 use crate::tests::named::Bit;
 use crate::tests::stage::{InMemory, Stage, Why, is_like, receive};
 use driver_core::Turned;
+use machine::{Outcome, Request};
 use rent_buf::{IoBuf as _, Rent, VecBuf};
-use ring_core::{Outcome, Request};
 use std::alloc::Global;
 use std::process::Abort;
 

@@ -1,5 +1,5 @@
 // What waits for a direction is dropped.
-ghost use Rattle.std.specs.Prelude.{◌≡◌};
+ghost use Rattle.std.specs.Prelude.{◌≡◌, ℕ};
 ghost use Rattle.ready_driver.specs.LegacyState.{ops_in};
 ghost use Rattle.relay_net.specs.Flow.{FitsStage, IsPending, IsReceive, IsSend};
 ghost use Rattle.relay_net.specs.Forwarding.{KeepsSeen};
@@ -14,7 +14,7 @@ use ready_driver::NonBlock;
 
 // Drops a receive that waits.
 fn drop_receive<I: NonBlock>(driver: &mut Reads<I>, op: Op, from: SharedFd, to: SharedFd)
-    requires pending { IsPending (ops_in driver.old) op (IsReceive from) }
+    requires pending { (room : ℕ) × IsPending (ops_in driver.old) op (IsReceive room from) }
     ensures drops { Abandons I.view I.tells driver.old from to driver.new }
     ensures given { driver.new.given ≡ driver.old.given }
     ensures keyed { KeepsKeys I.view I.memory driver.old driver.new }
@@ -44,7 +44,7 @@ pub(crate) fn abandon<I: NonBlock>(
     to: SharedFd,
     stage: Stage,
 )
-    requires fits { FitsStage (ops_in driver.old) from to stage }
+    requires fits { (room : ℕ) × FitsStage room (ops_in driver.old) from to stage }
     ensures drops { Abandons I.view I.tells driver.old from to driver.new }
     ensures given { driver.new.given ≡ driver.old.given }
     ensures keyed { KeepsKeys I.view I.memory driver.old driver.new }

@@ -29,14 +29,15 @@ fn end_accept<I: Sockets>(
     driver: &mut Reads<I>,
     accept: Option<Op>,
     listener: SharedFd,
+    room: usize,
     conns: &Vec<Connection>,
 )
-    requires sound { IsSound (ops_in driver.old) driver.old.handling.table listener accept conns.now.items }
-    ensures served { AreServed (ops_in driver.new) driver.new.handling.table listener conns.now.items }
+    requires sound { IsSound room (ops_in driver.old) driver.old.handling.table listener accept conns.now.items }
+    ensures served { AreServed room (ops_in driver.new) driver.new.handling.table listener conns.now.items }
     ensures later { IsLater (I.view driver.old.handling.io) (I.view driver.new.handling.io) }
     ensures made { (I.view driver.new.handling.io).made ≡ (I.view driver.old.handling.io).made }
 {
-    let _ = conns.len();
+    let _ = (room, conns.len());
     match accept {
         Some(op) => drop_accept(driver, op, listener),
         None => {}
@@ -44,12 +45,17 @@ fn end_accept<I: Sockets>(
 }
 
 // Ends each connection.
-fn end_each<I: Sockets>(driver: &mut Reads<I>, listener: SharedFd, conns: Vec<Connection>)
-    requires served { AreServed (ops_in driver.old) driver.old.handling.table listener conns.items }
+fn end_each<I: Sockets>(
+    driver: &mut Reads<I>,
+    listener: SharedFd,
+    room: usize,
+    conns: Vec<Connection>,
+)
+    requires served { AreServed room (ops_in driver.old) driver.old.handling.table listener conns.items }
     ensures later { IsLater (I.view driver.old.handling.io) (I.view driver.new.handling.io) }
     ensures made { (I.view driver.new.handling.io).made ≡ (I.view driver.old.handling.io).made }
 {
-    let _ = listener;
+    let _ = (listener, room);
     let mut conns = conns;
     while let Some(conn) = conns.pop() {
         conn.end(driver);
@@ -59,7 +65,7 @@ fn end_each<I: Sockets>(driver: &mut Reads<I>, listener: SharedFd, conns: Vec<Co
 
 // Drops the accept that waits, and ends each connection. The driver comes back.
 pub(crate) fn end_all<I: Sockets>(state: State<I>) -> Reads<I>
-    requires sound { IsSound (ops_in state.driver) state.driver.handling.table state.listener state.accept state.open.items }
+    requires sound { IsSound state.room (ops_in state.driver) state.driver.handling.table state.listener state.accept state.open.items }
     ensures later { IsLater (I.view state.driver.handling.io) (I.view result.handling.io) }
     ensures made { (I.view result.handling.io).made ≡ (I.view state.driver.handling.io).made }
 {
@@ -68,9 +74,10 @@ pub(crate) fn end_all<I: Sockets>(state: State<I>) -> Reads<I>
         listener,
         accept,
         open,
+        room,
     } = state;
     let mut driver = driver;
-    end_accept(&mut driver, accept, listener, &open);
-    end_each(&mut driver, listener, open);
+    end_accept(&mut driver, accept, listener, room, &open);
+    end_each(&mut driver, listener, room, open);
     driver
 }

@@ -1,9 +1,11 @@
 // What a round of a relay names, in memory that is used again.
-ghost use Rattle.std.specs.Prelude.{◌≡◌, ◌≤◌, [], None, OnOk};
+ghost use Rattle.std.specs.Prelude.{◌≡◌, ◌≤◌, [], None, IsOk, OnOk};
 ghost use Rattle.std.specs.Vec.{vec_len, vec_capacity};
-ghost use Rattle.relay_net.specs.Relaying.{AreEmpty};
+ghost use Rattle.ready_driver.specs.Io.{IoView};
+ghost use Rattle.relay_net.specs.Relay.{StopsUnless};
+ghost use Rattle.relay_net.specs.Relaying.{AreEmpty, RoundStops, round_of};
 
-use crate::round::{LostList, Round};
+use crate::round::{LostList, RelayError, Round};
 use crate::state::Ended;
 use rent_buf::{NumList, OutOfMemory};
 use std::alloc::Global;
@@ -97,5 +99,29 @@ pub(crate) fn round_with(alloc: Global, remote: Woken, lists: &mut Lists) -> Rou
         closed: NumList::from_vec(taken(alloc, &mut lists.ended.closed)),
         accept: lists.accept.take(),
         failed: LostList::from_vec(taken(alloc, &mut lists.ended.failed)),
+    }
+}
+
+// How many connections, from the lowest on, may go on behind a round that came to this: where it ran out of memory, those in front of the
+// connection that it reached.
+pub(crate) fn able_behind(worked: &Result<(), RelayError>, reached: usize, limit: usize) -> usize {
+    match worked {
+        Err(RelayError::OutOfMemory) => reached,
+        _ => limit,
+    }
+}
+
+// A round that came to this.
+pub(crate) fn finish(
+    worked: Result<(), RelayError>,
+    round: Round,
+) -> Result<Round, (RelayError, Round)>
+    ensures round { round_of result ≡ round }
+    ensures works { OnOk result (IsOk worked) }
+    ensures stops { (old new : IoView) → StopsUnless old new worked → RoundStops old new result }
+{
+    match worked {
+        Ok(()) => Ok(round),
+        Err(why) => Err((why, round)),
     }
 }

@@ -1,16 +1,16 @@
 // A relay over handles in memory: what arrives at them, and what was sent.
 ghost use Rattle.std.specs.Prelude.{◌≡◌, ◌++◌, ℕ, List, true, false, Err, None, Some, IfOk, OnErr, OnOk};
-ghost use Rattle.ring_core.specs.World.{WorldEnds, WorldFeeds, look_at};
-ghost use Rattle.ring_core.specs.declared.world.WorldError.TheVariants.{BadHandleEvent};
+ghost use Rattle.machine.specs.World.{WorldEnds, WorldFeeds, look_at};
+ghost use Rattle.machine.specs.declared.world.WorldError.TheVariants.{BadHandleEvent};
 ghost use Rattle.ready_driver.specs.Registry.{with_world};
 ghost use Rattle.relay_net.specs.Flow.{line};
 ghost use Rattle.relay_net.specs.Relaying.{has_handle};
 
 use crate::far::Far;
 use crate::relay::Relay;
+use machine::{Look, WorldError};
 use ready_driver::MemIo;
 use rent_buf::OutOfMemory;
-use ring_core::{Look, WorldError};
 
 impl<F: Far<MemIo>> Relay<MemIo, F> {
     /// Bytes arrive at a handle in memory that the user holds, as `feed` of the driver: they join the end of what is on its way from there.

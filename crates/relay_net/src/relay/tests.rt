@@ -1,12 +1,13 @@
 // A relay over handles in memory, row by row: what each does is written by hand.
 use crate::far::{Far, MemFar, Mirror};
+use crate::flow::ROOM;
 use crate::relay::{Relay, longest};
 use crate::round::{RelayError, Round};
 use driver_core::MOST_GIVEN;
 use handle_core::SharedFd;
+use machine::{HandleKind, Look, MOST_ASKED, MOST_HANDLES};
 use ready_driver::{LegacyDriver, MemIo, NonBlockError};
 use rent_buf::Buf;
-use ring_core::{HandleKind, Look, MOST_HANDLES};
 use std::alloc::Global;
 use std::sync::Wait;
 use std::sync::ledger::Ledger;
@@ -54,40 +55,45 @@ const LIMIT: u64 = 7;
 
 use Act::{Closes, End as Ends, Feed, Gone, Opens, Refuses, Round as Goes, Sent, Starves, Waits};
 
-// A row: the other end, the most connections, what listens, and what is done.
+// A row: the other end, the most connections, how much a receive asks for, what listens, and what is done.
 struct Row {
     name: &'static str,
     end: End,
     limit: u32,
+    room: usize,
     kind: HandleKind,
     acts: &'static [Act],
 }
 
 #[rattlefmt::skip]
-const ROWS: [Row; 12] = [
-    Row { name: "an echo, and its end", end: End::Mirror, limit: 1, kind: HandleKind::Listener,
+const ROWS: [Row; 14] = [
+    Row { name: "an echo, and its end", end: End::Mirror, limit: 1, room: ROOM, kind: HandleKind::Listener,
         acts: &[Opens(1), Feed(1, "ab"), Goes, Sent(1, ""), Goes, Sent(1, "ab"), Ends(1), Closes(1)] },
-    Row { name: "as many are open as may be", end: End::Mirror, limit: 2, kind: HandleKind::Listener,
+    Row { name: "as many are open as may be", end: End::Mirror, limit: 2, room: ROOM, kind: HandleKind::Listener,
         acts: &[Opens(1), Opens(2), Goes, Ends(1), Closes(1), Opens(3)] },
-    Row { name: "one goes on beside another", end: End::Mirror, limit: 2, kind: HandleKind::Listener,
+    Row { name: "one goes on beside another", end: End::Mirror, limit: 2, room: ROOM, kind: HandleKind::Listener,
         acts: &[Opens(1), Opens(2), Feed(2, "x"), Feed(1, "yz"), Goes, Goes, Sent(1, "yz"), Sent(2, "x")] },
-    Row { name: "two ends, both ways", end: End::Stream, limit: 1, kind: HandleKind::Listener,
+    Row { name: "two ends, both ways", end: End::Stream, limit: 1, room: ROOM, kind: HandleKind::Listener,
         acts: &[Opens(1), Feed(1, "to"), Feed(2, "fro"), Goes, Goes, Sent(1, "fro"), Sent(2, "to")] },
-    Row { name: "what is held goes before the connection is closed", end: End::Stream, limit: 1, kind: HandleKind::Listener,
+    Row { name: "what is held goes before the connection is closed", end: End::Stream, limit: 1, room: ROOM, kind: HandleKind::Listener,
         acts: &[Opens(1), Feed(1, "last"), Ends(1), Goes, Goes, Sent(2, "last"), Closes(1), Opens(3)] },
-    Row { name: "the far end ends it too", end: End::Stream, limit: 1, kind: HandleKind::Listener,
+    Row { name: "the far end ends it too", end: End::Stream, limit: 1, room: ROOM, kind: HandleKind::Listener,
         acts: &[Opens(1), Feed(2, "bye"), Ends(2), Goes, Goes, Sent(1, "bye"), Closes(1)] },
-    Row { name: "bytes that come after the end of the other way aren't asked for", end: End::Stream, limit: 1, kind: HandleKind::Listener,
-        acts: &[Opens(1), Feed(1, "a"), Ends(2), Goes, Feed(1, "b"), Closes(1), Opens(3), Gone(2)] },
-    Row { name: "without another end none is opened", end: End::Nothing, limit: 1, kind: HandleKind::Listener,
+    Row { name: "bytes that come after the end of the other way aren't asked for", end: End::Stream, limit: 1, room: ROOM,
+        kind: HandleKind::Listener, acts: &[Opens(1), Feed(1, "a"), Ends(2), Goes, Feed(1, "b"), Closes(1), Opens(3), Gone(2)] },
+    Row { name: "without another end none is opened", end: End::Nothing, limit: 1, room: ROOM, kind: HandleKind::Listener,
         acts: &[Starves, Starves] },
-    Row { name: "an accept fails where nothing listens", end: End::Mirror, limit: 1, kind: HandleKind::Stream,
+    Row { name: "an accept fails where nothing listens", end: End::Mirror, limit: 1, room: ROOM, kind: HandleKind::Stream,
         acts: &[Goes, Feed(0, "x"), Refuses(22), Refuses(22)] },
-    Row { name: "a round waits unless a direction has something to do", end: End::Mirror, limit: 1, kind: HandleKind::Listener,
+    Row { name: "a round waits unless a direction has something to do", end: End::Mirror, limit: 1, room: ROOM, kind: HandleKind::Listener,
         acts: &[Waits(7), Opens(1), Waits(7), Feed(1, "ab"), Goes, Waits(0), Goes, Waits(0), Goes, Waits(7)] },
-    Row { name: "a round waits behind one that ran out of memory", end: End::Few, limit: 3, kind: HandleKind::Listener,
+    Row { name: "a round waits behind one that ran out of memory", end: End::Few, limit: 3, room: ROOM, kind: HandleKind::Listener,
         acts: &[Opens(1), Feed(1, "ab"), Opens(2), Waits(0), Starves, Waits(7), Starves, Waits(7), Sent(1, "")] },
-    Row { name: "nothing is open yet", end: End::Mirror, limit: 1, kind: HandleKind::Listener,
+    Row { name: "a receive takes as much as it has room for", end: End::Mirror, limit: 1, room: 2, kind: HandleKind::Listener,
+        acts: &[Opens(1), Feed(1, "abcde"), Goes, Goes, Sent(1, "ab"), Goes, Goes, Sent(1, "abcd"), Goes, Goes, Sent(1, "abcde")] },
+    Row { name: "behind one that closed a connection a round doesn't wait", end: End::Mirror, limit: 1, room: ROOM,
+        kind: HandleKind::Listener, acts: &[Opens(1), Ends(1), Closes(1), Waits(0), Opens(2), Waits(7)] },
+    Row { name: "nothing is open yet", end: End::Mirror, limit: 1, room: ROOM, kind: HandleKind::Listener,
         acts: &[Gone(1), Opens(1)] },
 ];
 
@@ -191,18 +197,19 @@ fn holds<R: Wait + Clock, P: Ledger, D: Ledger>(
     }
 }
 
-// A relay over handles in memory, whose listener is of this kind.
-fn relay_of(alloc: Global, end: End, limit: u32, kind: HandleKind) -> Option<OnHandles> {
+// The relay of a row.
+fn relay_of(alloc: Global, row: &Row) -> Option<OnHandles> {
+    let (limit, room) = (row.limit, row.room);
     let mut driver: LegacyDriver<MemIo, Buf> = LegacyDriver::over(alloc, MemIo::new(alloc));
     let next = driver.handles();
-    if next >= MOST_HANDLES || driver.known(next) || limit > 64 {
+    if next >= MOST_HANDLES || driver.known(next) || limit > 64 || room == 0 || room > MOST_ASKED {
         return None;
     }
-    let listener = driver.give(kind).ok()?;
+    let listener = driver.give(row.kind).ok()?;
     if !driver.user_holds(listener.number()) {
         return None;
     }
-    match Relay::new(alloc, driver, listener, limit, end) {
+    match Relay::with_room(alloc, driver, listener, limit, room, row.end) {
         Ok(relay) => Some(relay),
         Err(_) => None,
     }
@@ -229,7 +236,7 @@ impl<'a, R: Wait + Clock> Work for Run<'a, R> {
     ) -> bool {
         let Run { rt, alloc, row } = self;
         let mut sleeper = sleeper;
-        let Some(relay) = relay_of(alloc, row.end, row.limit, row.kind) else {
+        let Some(relay) = relay_of(alloc, row) else {
             return false;
         };
         let mut relay = relay;

@@ -1,10 +1,8 @@
 // A ring, with the allocator of what tests make.
 use crate::tests::stage::{Handles, Stage, Why};
+use machine::{Completion, HandleKind, Look, Told, World, WorldError};
 use rent_buf::{ByteList, MessageList, OutOfMemory};
-use ring_core::{
-    Completion, EnterError, Entry, ExecRefusal, HandleKind, Look, MemRing, Push, Ring, Told, World,
-    WorldError,
-};
+use ring_core::{EnterError, Entry, ExecRefusal, MemRing, Push, Ring};
 use std::alloc::Global;
 
 /// A ring, with the allocator of what tests make.

@@ -2,9 +2,8 @@
 use crate::tests::bench::bench_of;
 use crate::tests::stage::{Handles, Stage, Why, is_like};
 use crate::tests::steps::{finishes, read_entry, shows};
-use ring_core::{
-    Body, CANCEL_WORD, Call, Completion, Entry, ExecRefusal, HandleKind, Outcome, Push, Told,
-};
+use machine::{Call, Completion, HandleKind, Outcome, Told};
+use ring_core::{Body, CANCEL_WORD, Entry, ExecRefusal, Push};
 use std::process::Abort;
 use std::test::Fail;
 

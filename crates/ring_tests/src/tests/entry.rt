@@ -1,8 +1,6 @@
 // Data words, the entries that calls make, and the texts of errors.
-use crate::tests::steps::read_entry;
-use ring_core::{
-    Body, CANCEL_WORD, Call, EnterError, Entry, ExecRefusal, MOST_HANDLES, Target, Told, WorldError,
-};
+use machine::{Call, MOST_HANDLES, WorldError};
+use ring_core::{Body, CANCEL_WORD, EnterError, Entry, ExecRefusal, Target};
 use std::test::Fail;
 
 // Data words, and what they name. The fourth is that of the close of the handle 9.
@@ -65,31 +63,6 @@ fn make(makes: Makes) -> Option<Entry> {
 fn an_entry_has_the_word_of_its_sort(rt: HostRuntime) {
     for (makes, want) in ENTRIES {
         assert_eq!(rt; make(makes), Some(want), "with the word {}", want.word);
-    }
-}
-
-// How many bytes of what it holds the request of an entry sends.
-fn sends(entry: Entry, told: Told) -> Option<u32> {
-    entry.body.sends(told)
-}
-
-#[test]
-fn a_read_sends_nothing(rt: HostRuntime) {
-    assert_eq!(rt; sends(read_entry(5, 7, 4), Told::Count(1)), None);
-}
-
-// Reports, and the count that each has.
-const COUNTS: [(Told, Option<u32>); 2] = [(Told::Count(7), Some(7)), (Told::Fail(7), None)];
-
-// The count of a report.
-fn count_of(told: Told) -> Option<u32> {
-    told.count()
-}
-
-#[test]
-fn a_report_of_a_count_has_one(rt: HostRuntime) {
-    for (told, want) in COUNTS {
-        assert_eq!(rt; count_of(told), want, "of {told:?}");
     }
 }
 

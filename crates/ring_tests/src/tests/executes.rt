@@ -3,8 +3,9 @@ use crate::tests::bench::{Bench, bench_of};
 use crate::tests::request::{list, parts_of};
 use crate::tests::stage::{Handles, Stage, Why, is_like};
 use crate::tests::steps::{read_entry, send_entry, shows};
+use machine::{HandleKind, Payloads, Told, append_first_parts, copy_first_parts};
 use rent_buf::{ByteList, OutOfMemory, VecBuf};
-use ring_core::{HandleKind, MemRing, Payloads, Push, Told, append_first_parts, copy_first_parts};
+use ring_core::{MemRing, Push};
 use std::alloc::Global;
 use std::test::Fail;
 

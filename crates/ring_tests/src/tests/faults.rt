@@ -1,8 +1,9 @@
 // A ring in memory whose enters fail where they are told to, and to which completions are added.
 use crate::tests::bench::Bench;
 use crate::tests::stage::{Stage, Why, is_like};
+use machine::{Completion, Outcome};
 use rent_buf::{NumList, OutOfMemory};
-use ring_core::{Body, Completion, EnterError, Entry, FaultRing, MemRing, Outcome, Push, Ring};
+use ring_core::{Body, EnterError, Entry, FaultRing, MemRing, Push, Ring};
 use std::alloc::Global;
 use std::process::Abort;
 use std::test::Fail;

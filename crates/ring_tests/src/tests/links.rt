@@ -3,10 +3,8 @@ use crate::tests::bench::bench_of;
 use crate::tests::stage::{Handles, Stage, Why, is_like};
 use crate::tests::steps::{Step, run_row};
 use Step::{Bound, Enter, Feed, Finish, Flies, Give, Has, Next, Pushes};
-use ring_core::{
-    Body, CANCEL_WORD, CANCELED, Call, Completion, Entry, ExecRefusal, HandleKind, Outcome, Push,
-    Told,
-};
+use machine::{CANCELED, Call, Completion, HandleKind, Outcome, Told};
+use ring_core::{Body, CANCEL_WORD, Entry, ExecRefusal, Push};
 use std::process::Abort;
 use std::test::Fail;
 

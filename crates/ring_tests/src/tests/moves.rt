@@ -2,7 +2,8 @@
 use crate::tests::bench::bench_of;
 use crate::tests::stage::{Handles, Stage, Why, is_like, submit};
 use crate::tests::steps::{finishes, shows};
-use ring_core::{Call, Completion, Entry, HandleKind, Outcome, Told};
+use machine::{Call, Completion, HandleKind, Outcome, Told};
+use ring_core::Entry;
 use std::process::Abort;
 use std::test::Fail;
 

@@ -2,7 +2,8 @@
 use crate::tests::bench::bench_of;
 use crate::tests::stage::{Handles, Stage, Why, is_like, submit};
 use crate::tests::steps::read_entry;
-use ring_core::{Completion, ExecRefusal, Told};
+use machine::{Completion, Told};
+use ring_core::ExecRefusal;
 use std::alloc::Global;
 use std::process::Abort;
 use std::test::Fail;

@@ -1,10 +1,10 @@
 // What requests name, ask and show, what is stored in them, and what they are made into.
 use crate::tests::stage::{Why, is_like};
+use machine::{Call, Names, Request, SharedFd, Way, append_first, append_first_parts};
 use rent_buf::{
     ByteList, Held, IoBuf as _, IoBufMut, IoVecBuf as _, IoVecBufMut as _, OutOfMemory, Rent,
     VecBuf,
 };
-use ring_core::{Call, Names, Request, SharedFd, Way, append_first, append_first_parts};
 use std::alloc::Global;
 use std::process::Abort;
 use std::test::Fail;

@@ -1,7 +1,8 @@
 // The memory of queues, and bytes that wait.
 use crate::tests::stage::{Why, is_like};
+use machine::Input;
 use rent_buf::OutOfMemory;
-use ring_core::{Input, make_room};
+use ring_core::make_room;
 use std::alloc::Global;
 use std::collections::VecDeque;
 use std::test::Fail;

@@ -2,9 +2,8 @@
 use crate::tests::bench::bench_of;
 use crate::tests::steps::{Step, run_row};
 use Step::{Both, Count, End, Feed, Finish, Flies, Give, Has, Look, Next, Submit};
-use ring_core::{
-    Body, Call, Completion, Entry, ExecRefusal, HandleKind, Outcome, Push, Told, WorldError,
-};
+use machine::{Call, Completion, HandleKind, Outcome, Told, WorldError};
+use ring_core::{Body, Entry, ExecRefusal, Push};
 use std::test::Fail;
 
 // A new stream, which is handle 0.

@@ -1,6 +1,7 @@
 // What tests do with a ring: each call here makes one call of the ring or of its handles, and answers plain values.
+use machine::{Completion, HandleKind, Told, WorldError};
 use rent_buf::{ByteList, OutOfMemory};
-use ring_core::{Completion, EnterError, Entry, ExecRefusal, HandleKind, Push, Told, WorldError};
+use ring_core::{EnterError, Entry, ExecRefusal, Push};
 
 /// Why a call wasn't made, or what became of it that no test expects.
 #[derive(Clone, Copy, Debug, PartialEq, Eq)]

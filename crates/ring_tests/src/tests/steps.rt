@@ -1,6 +1,7 @@
 // Steps of a test, each with what it is to answer.
 use crate::tests::stage::{Handles, Stage, Why, is_like, submit};
-use ring_core::{Body, Call, Completion, Entry, ExecRefusal, HandleKind, Push, Told, WorldError};
+use machine::{Call, Completion, HandleKind, Told, WorldError};
+use ring_core::{Body, Entry, ExecRefusal, Push};
 use std::process::Abort;
 
 /// One step, and what it is to answer.

@@ -1,11 +1,11 @@
 //! The events of cancellers and their groups.
-ghost use Rattle.ring_core.specs.Ledger.{Ledger};
-ghost use Rattle.ring_core.specs.declared.ledger.Event.TheVariants.{NewCanceller, NewHandle, CancelAll};
+ghost use Rattle.machine.specs.Ledger.{Ledger};
+ghost use Rattle.machine.specs.declared.ledger.Event.TheVariants.{NewCanceller, NewHandle, CancelAll};
 ghost use Rattle.session_core.specs.Session.{SessionStands, StepsFor};
 
 use super::Session;
+use machine::{Refusal, Reply};
 use rent_buf::OutOfMemory;
-use ring_core::{Refusal, Reply};
 
 impl Session {
     // A canceller is created. The memory of its place is taken before the driver changes.

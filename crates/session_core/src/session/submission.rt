@@ -1,10 +1,10 @@
 //! The submission of a request, under a cancel handle or none.
 ghost use Rattle.std.specs.Prelude.{ℕ, Bool, true, Option, ◌≡◌, ◌<◌, [], IfSome, IfNone, IfOk, IfErr, OnErr, IsTrue};
 ghost use Rattle.rent_buf.specs.Buf.{built};
-ghost use Rattle.ring_core.specs.Request.{named, plain_request};
-ghost use Rattle.ring_core.specs.Ledger.{Ledger, is_under_marked};
-ghost use Rattle.ring_core.specs.Refusal.{cause};
-ghost use Rattle.ring_core.specs.declared.ledger.Event.TheVariants.{Submit};
+ghost use Rattle.machine.specs.Request.{named, plain_request};
+ghost use Rattle.machine.specs.Ledger.{Ledger, is_under_marked};
+ghost use Rattle.machine.specs.Refusal.{cause};
+ghost use Rattle.machine.specs.declared.ledger.Event.TheVariants.{Submit};
 ghost use Rattle.uring_driver.specs.Uring.{holds_all, given_by, group_count, due_in};
 ghost use Rattle.uring_driver.specs.Stands.{Stands};
 ghost use Rattle.uring_driver.specs.Submitted.{AddsToken, JoinsFor, SubmitRefused, SubmitsFor};
@@ -14,9 +14,10 @@ ghost use Rattle.driver_core.specs.Tokens.{HasRoom};
 ghost use Rattle.session_core.specs.Submission.{FindsFor};
 
 use super::{Session, plain_held};
+use machine::{Refusal, Reply, Request};
 use op_slots::slab::MAX_LIVE;
 use rent_buf::{Buf, BufSpec, OutOfMemory, PartsSpec, VecBuf};
-use ring_core::{MemRing, Refusal, Reply, Request};
+use ring_core::MemRing;
 use uring_driver::{CancelHandle, IoUringDriver, MOST_GIVEN, SubmitError, Submitted};
 
 impl Session {

@@ -1,15 +1,16 @@
 // Sessions that are called without the program: one whose driver is called in between, and a run on the readiness driver.
 ghost use Rattle.std.specs.Prelude.{IfOk};
-ghost use Rattle.ring_core.specs.Run.{ledger};
+ghost use Rattle.machine.specs.Run.{ledger};
 ghost use Rattle.ready_driver.specs.Readiness.{AreDriven};
 ghost use Rattle.session_core.specs.Session.{AreParts, SessionStands};
 
 use crate::tests::program::Why;
 use crate::tests::text::pairs_of;
 use event_text::{read_events, read_external_events, write_reply};
+use machine::{Event, Reply, Told};
 use ready_run::ReadySession;
 use rent_buf::{Buf, OutOfMemory};
-use ring_core::{Event, MemRing, Reply, Told};
+use ring_core::MemRing;
 use session_core::{Session, Tokens};
 use std::alloc::Global;
 use std::test::Fail;

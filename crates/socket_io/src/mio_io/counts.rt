@@ -4,8 +4,8 @@ ghost use Rattle.socket_io.specs.Counted.{Raises, answer_of, IsCounted, SaysNoth
 
 use crate::mio_io::socket::Refusal;
 use driver_core::CallAnswer;
+use machine::Outcome;
 use ready_driver::NonBlockError;
-use ring_core::Outcome;
 
 /// How often a call failed as a whole, how often one would have blocked, and how often one ended with an error. A count saturates.
 /// (not in monoio)

@@ -7,11 +7,11 @@ ghost use Rattle.socket_io.specs.System.{bit_if, event_bits, event_report};
 ghost use Rattle.socket_io.specs.Polled.{WaitLeaves, IsFault, unreported_if, unreported_in};
 
 use crate::mio_io::socket::{NO_NUMBER, fault_by};
+use machine::MOST_HANDLES;
 use mio::event::Event;
 use mio::{Events, Poll, Registry, Token, Waker};
 use ready_driver::{NonBlockError, Ready, Report, Reports};
 use rent_buf::OutOfMemory;
-use ring_core::MOST_HANDLES;
 use std::alloc::Global;
 use std::marker::Model;
 use std::net::Net;

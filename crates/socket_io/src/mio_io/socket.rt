@@ -1,17 +1,17 @@
 //! Sockets of the system, and how it ends a call on one.
 ghost use Rattle.std.specs.Prelude.{◌≡◌, ◌≤◌, length, Some, IfOk};
 ghost use Rattle.std.specs.IoError.{error_kind, raw_os_error};
-ghost use Rattle.ring_core.specs.declared.world.HandleKind.{HandleKind};
+ghost use Rattle.machine.specs.declared.world.HandleKind.{HandleKind};
 ghost use Rattle.socket_io.specs.System.{IsLocal, error_number, refusal_of};
 ghost use Rattle.socket_io.specs.SocketTable.{kind_of, is_listener, is_stream, RefusesUnfit};
 
 use crate::mio_io::probe::Probe;
 use crate::mio_io::stream::Stream;
+use machine::{INVALID, LAST_ERROR};
 use mio::event::Source;
 use mio::net::{TcpListener, TcpStream};
 use mio::{Interest, Registry, Token};
 use ready_driver::{NonBlockError, Ready};
-use ring_core::{INVALID, LAST_ERROR};
 use std::io;
 use std::io::ErrorKind;
 use std::net::{IpAddr, Ipv4Addr, Net, SocketAddr};

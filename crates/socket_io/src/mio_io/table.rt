@@ -1,17 +1,17 @@
 //! Open sockets by their handles' numbers, which are given in order.
 ghost use Rattle.std.specs.Prelude.{◌≡◌, ◌≤◌, suc, length, false, is_some, IsSome, IfOk, OnOk, Err};
 ghost use Rattle.ready_driver.specs.declared.non_block.NonBlockError.TheVariants.{Fault};
-ghost use Rattle.ring_core.specs.declared.world.call.TheConstants.{INVALID};
+ghost use Rattle.machine.specs.declared.world.call.TheConstants.{INVALID};
 ghost use Rattle.std.specs.FinMap as finite;
-ghost use Rattle.ring_core.specs.declared.world.HandleKind.TheVariants.{Stream};
+ghost use Rattle.machine.specs.declared.world.HandleKind.TheVariants.{Stream};
 ghost use Rattle.socket_io.specs.SocketTable.{IsRoomy, kind_of, is_listener, is_stream, RefusesUnfit};
 
 use crate::mio_io::probe::Probe;
 use crate::mio_io::socket::{Refusal, Socket};
+use machine::{INVALID, MOST_HANDLES};
 use mio::Registry;
 use ready_driver::{NonBlockError, Report};
 use rent_buf::OutOfMemory;
-use ring_core::{INVALID, MOST_HANDLES};
 use std::alloc::Global;
 use std::collections::HashMap;
 use std::marker::Model;

@@ -3,7 +3,7 @@ use event_text::{
     LinesError, event_of_line, first_line, first_wrong, read_events, read_external_events,
     write_event,
 };
-use ring_core::Event;
+use machine::Event;
 use std::alloc::Global;
 use std::test::Fail;
 

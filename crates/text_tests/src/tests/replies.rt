@@ -1,7 +1,7 @@
 // The texts of replies, of words of bytes, and of errors.
 use event_text::{LinesError, count_bytes, read_bytes, write_reply};
+use machine::{Outcome, Refusal, Reply};
 use rent_buf::{BufSpec, ByteList, HeldBuf, Kind, MessageList, NumList, OutOfMemory, PartsSpec};
-use ring_core::{Outcome, Refusal, Reply};
 use std::alloc::{AllocError, Global};
 use std::test::Fail;
 

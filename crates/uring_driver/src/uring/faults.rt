@@ -4,8 +4,9 @@ ghost use Rattle.uring_driver.specs.Uring.{ring_in};
 ghost use Rattle.uring_driver.specs.Finish.{with_ring_in, injected};
 
 use crate::uring::IoUringDriver;
+use machine::Completion;
 use rent_buf::{IoBufMut, OutOfMemory};
-use ring_core::{Completion, FaultRing};
+use ring_core::FaultRing;
 
 impl<B: IoBufMut + Drop> IoUringDriver<FaultRing, B> {
     /// Adds a completion behind those that are ready, whatever its word, and changes nothing else. If memory runs out, nothing has

@@ -2,7 +2,7 @@
 ghost use Rattle.std.specs.Prelude.{◌≡◌, ◌≤◌, ◌<◌, [], length, IsTrue, IfOk, IfErr, OnOk, OnErr};
 ghost use Rattle.std.specs.List.Sorted.{IsStrictlyIncreasing};
 ghost use Rattle.cancel_core.specs.Group.{group_at};
-ghost use Rattle.ring_core.specs.Ledger.{Ledger, is_marked};
+ghost use Rattle.machine.specs.Ledger.{Ledger, is_marked};
 ghost use Rattle.driver_core.specs.Answers.{CancellerFor, HandleFor, CancelsFor};
 ghost use Rattle.driver_core.specs.Groups as groups;
 ghost use Rattle.driver_core.specs.Members.{with_fresh, cancels, HaveKeys};

@@ -2,8 +2,8 @@
 ghost use Rattle.std.specs.Prelude.{◌≡◌, ◌<◌, ◌-◌, ◌↔◌, true, false, [], map, IsTrue, IfOk, OnOk, OnErr};
 ghost use Rattle.handle_core.specs.Table.{holders_at, with_holders, with_user, without_user};
 ghost use Rattle.ring_core.specs.Entry.{close_entry};
-ghost use Rattle.ring_core.specs.Ledger.{Ledger};
-ghost use Rattle.ring_core.specs.Request.{listed};
+ghost use Rattle.machine.specs.Ledger.{Ledger};
+ghost use Rattle.machine.specs.Request.{listed};
 ghost use Rattle.driver_core.specs.Holds.{is_nobody};
 ghost use Rattle.uring_driver.specs.Holding.{closes, knows, user_count, user_left, unheld_if, IsSameHolding};
 ghost use Rattle.uring_driver.specs.Uring.{due_in, pending, holding_in, holds_handle, holds_all};
@@ -15,8 +15,9 @@ ghost use Rattle.uring_driver.specs.Released.{Adopts, ReleasesFor, HasHandleRoom
 
 use crate::uring::{IoUringDriver, owed};
 use handle_core::{MAX_HOLDS, Released, SharedFd};
+use machine::{MOST_HANDLES, Names};
 use rent_buf::{IoBufMut, OutOfMemory};
-use ring_core::{Entry, MOST_HANDLES, Names, Ring};
+use ring_core::{Entry, Ring};
 
 impl<R: Ring, B: IoBufMut + Drop> IoUringDriver<R, B> {
     /// The user holds a handle of this number, below `MOST_HANDLES`, which wasn't known. The memory of its close is reserved, so that no

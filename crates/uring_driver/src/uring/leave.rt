@@ -1,9 +1,9 @@
 //! What the leaving of an operation does to the handles that it named, and to the one that it made.
 ghost use Rattle.std.specs.Prelude.{◌≡◌, ◌≤◌, ◌<◌, ℕ, true, false, [], ◌∷◌, map, length, IsTrue, IfSome};
-ghost use Rattle.ring_core.specs.Ledger.{with_made};
-ghost use Rattle.ring_core.specs.Lists.{has_number};
+ghost use Rattle.machine.specs.Ledger.{with_made};
+ghost use Rattle.machine.specs.Lists.{has_number};
 ghost use Rattle.ring_core.specs.Entry.{close_entry};
-ghost use Rattle.ring_core.specs.Request.{listed};
+ghost use Rattle.machine.specs.Request.{listed};
 ghost use Rattle.driver_core.specs.Holds.{unheld_by, CanLeave};
 ghost use Rattle.uring_driver.specs.Holding.{ops_left};
 ghost use Rattle.uring_driver.specs.Making.{kept_if, lost_if, refuses_made, op_closes, op_ended, handed_if};
@@ -13,7 +13,8 @@ ghost use Rattle.uring_driver.specs.Submissions.{PostsEach, PendingMovesEach, pe
 use crate::holding::Handles;
 use crate::submissions::Submissions;
 use handle_core::Released;
-use ring_core::{Entry, MOST_HANDLES, Names, Ring};
+use machine::{MOST_HANDLES, Names};
+use ring_core::{Entry, Ring};
 
 /// An operation that named these handles is gone: it holds each no more, and the close of one that nobody holds joins what is pending. It
 /// takes no memory.

@@ -1,10 +1,10 @@
 //! The calls of a driver over the ring in memory: its handles, and what executes its operations.
 ghost use Rattle.std.specs.Prelude.{◌≡◌, ◌≤◌, ◌<◌, ◌++◌, ◌&&◌, nat_lt, false, [], ◌∷◌, IsTrue, IfOk, IfErr, OnOk, OnErr, length};
-ghost use Rattle.ring_core.specs.World.{fresh, look_at, WorldFeeds, WorldFeedsMessage, WorldEnds};
-ghost use Rattle.ring_core.specs.Surroundings.{around};
-ghost use Rattle.ring_core.specs.Ledger.{Ledger, empty};
-ghost use Rattle.ring_core.specs.declared.ledger.Event.TheVariants.{Give};
-ghost use Rattle.ring_core.specs.declared.ledger.Reply.TheVariants.{Handle};
+ghost use Rattle.machine.specs.World.{fresh, look_at, WorldFeeds, WorldFeedsMessage, WorldEnds};
+ghost use Rattle.machine.specs.Surroundings.{around};
+ghost use Rattle.machine.specs.Ledger.{Ledger, empty};
+ghost use Rattle.machine.specs.declared.ledger.Event.TheVariants.{Give};
+ghost use Rattle.machine.specs.declared.ledger.Reply.TheVariants.{Handle};
 ghost use Rattle.uring_driver.specs.Op.{HoldsNone, KeepsTokens, KeepsRequests, KeepsSurroundings};
 ghost use Rattle.uring_driver.specs.Submissions.{IsSameButWorld};
 ghost use Rattle.ring_core.specs.Entry.{target};
@@ -18,11 +18,9 @@ ghost use Rattle.uring_driver.specs.Executed.{ExecutesFor, ExecutesOver, execute
 
 use crate::uring::IoUringDriver;
 use driver_core::Executed;
+use machine::{Completion, HandleKind, Look, MOST_HANDLES, SharedFd, Told, WorldError};
 use rent_buf::{IoBufMut, OutOfMemory};
-use ring_core::{
-    Completion, ExecRefusal, HandleKind, Look, MOST_HANDLES, MemRing, SharedFd, Target, Told,
-    WorldError,
-};
+use ring_core::{ExecRefusal, MemRing, Target};
 use std::alloc::Global;
 
 // How many entries the queue of a new driver holds.

@@ -1,8 +1,8 @@
 //! Turns and parks of the completion driver: a park is a turn that may wait for wakers of other threads in its middle.
 ghost use Rattle.std.specs.Prelude.{◌≡◌, ◌+◌, [], false, length, Some, None, IfNone};
-ghost use Rattle.ring_core.specs.declared.ledger.Event.TheVariants.{Turn};
-ghost use Rattle.ring_core.specs.Step.{step};
-ghost use Rattle.ring_core.specs.Ledger.{Ledger as Machine};
+ghost use Rattle.machine.specs.declared.ledger.Event.TheVariants.{Turn};
+ghost use Rattle.machine.specs.Step.{step};
+ghost use Rattle.machine.specs.Ledger.{Ledger as Machine};
 ghost use Rattle.wake_core.specs.WakerList.{IsInOrder};
 ghost use Rattle.uring_driver.specs.Op.{KeepsRequests};
 ghost use Rattle.uring_driver.specs.Stands.{StandsIfSteady};

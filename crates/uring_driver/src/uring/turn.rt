@@ -18,8 +18,9 @@ use crate::submissions::Submissions;
 use crate::uring::IoUringDriver;
 use crate::uring::leave::end_op;
 use driver_core::{Operations, Stop, Turned};
+use machine::Completion;
 use rent_buf::{IoBufMut, NumList, OutOfMemory};
-use ring_core::{Completion, Ring, Target};
+use ring_core::{Ring, Target};
 use std::alloc::Global;
 use std::mem;
 

@@ -1,5 +1,5 @@
 use Rattle.std.proofs.Common.{refl}
-use Rattle.ring_core.specs.Surroundings.{around}
+use Rattle.machine.specs.Surroundings.{around}
 use Rattle.driver_core.specs.Requests.{surroundings_in}
 use Rattle.driver_core.proofs.Numbers.{keeps-put}
 use Rattle.driver_core.proofs.Requests.{stays-put}

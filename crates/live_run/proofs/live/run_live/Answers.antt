@@ -1,4 +1,4 @@
-use Rattle.ring_core.specs.Ledger.{empty}
+use Rattle.machine.specs.Ledger.{empty}
 use Rattle.live_run.proofs.live.run_live.Goals as goal
 
 pub returns : goal.returns

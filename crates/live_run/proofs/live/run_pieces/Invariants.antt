@@ -1,5 +1,5 @@
 use Rattle.std.proofs.Common.{◌≡◌, ◌≤◌, ◌+◌, ◌++◌, [], IsTrue, None, vec_len}
-use Rattle.ring_core.specs.Ledger.{Ledger}
+use Rattle.machine.specs.Ledger.{Ledger}
 use Rattle.rent_io.specs.Call.{Took}
 use Rattle.event_text.specs.TextLook.{line_end}
 use Rattle.session_core.specs.Session.{SessionStands}

@@ -1,5 +1,5 @@
 use Rattle.std.proofs.Common.{◌≡◌, ℕ, true, false, drop, length, get_or}
-use Rattle.ring_core.specs.Lists.{has_number}
+use Rattle.machine.specs.Lists.{has_number}
 use Rattle.ready_driver.proofs.due.unmark.Given as goal
 
 -- What is marked is among the handles that are left.

@@ -1,5 +1,5 @@
 use Rattle.std.proofs.Common.{◌<◌, ◌≤◌, length, refl, arith}
-use Rattle.ring_core.proofs.Amended.{amended-at, amended-past}
+use Rattle.machine.proofs.Amended.{amended-at, amended-past}
 use Rattle.ready_driver.proofs.mem_io.set_key.Goals as goal
 
 pub returns-then-h-len : goal.returns-then-h-len

@@ -1,5 +1,5 @@
 use Rattle.std.proofs.Common.{refl, sym, ◌∙◌}
-use Rattle.ring_core.proofs.Amended.{length-amended}
+use Rattle.machine.proofs.Amended.{length-amended}
 use Rattle.ready_driver.proofs.Ended.{lands, canceled-stand}
 use Rattle.ready_driver.proofs.polling.cancel_at.Goals as goal
 

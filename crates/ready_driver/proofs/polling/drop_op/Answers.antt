@@ -1,6 +1,6 @@
 use Rattle.std.proofs.Common.{sym, ◌∙◌, ap, subst}
 use Rattle.std.specs.FinMap.{remove}
-use Rattle.ring_core.proofs.Amended.{length-amended}
+use Rattle.machine.proofs.Amended.{length-amended}
 use Rattle.driver_core.proofs.Numbers.{owner}
 use Rattle.ready_driver.specs.LegacyStep.{freed}
 use Rattle.ready_driver.specs.Polling.{SlotsStand, asked_at}

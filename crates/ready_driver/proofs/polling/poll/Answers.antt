@@ -3,7 +3,7 @@ use Rattle.driver_core.specs.Op.{key_of}
 use Rattle.driver_core.specs.Slot.{EndsSlot}
 use Rattle.driver_core.specs.Calls.{CallsSlot}
 use Rattle.driver_core.specs.declared.operations.calls.CallAnswer.TheVariants.{Done, WouldBlock, OutOfMemory}
-use Rattle.ring_core.specs.Request.{plain_request}
+use Rattle.machine.specs.Request.{plain_request}
 use Rattle.ready_driver.specs.Errors.{IsCounted}
 use Rattle.ready_driver.specs.Io.{IsMade, CallsFor, AreDue}
 use Rattle.ready_driver.proofs.Ended.{ready-reply, ready-stand, ready-rest, unmade-stand, blocks-driven, made-reply, made-stand, made-rest}

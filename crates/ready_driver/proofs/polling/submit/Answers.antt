@@ -1,6 +1,6 @@
 use Rattle.std.proofs.Common.{◌+◌, refl, sym, ◌∙◌, ap, subst}
 use Rattle.std.proofs.lemmas.List.{length-append}
-use Rattle.ring_core.specs.Request.{plain_request}
+use Rattle.machine.specs.Request.{plain_request}
 use Rattle.driver_core.specs.Operations.{new_slot}
 use Rattle.ready_driver.specs.Polling.{SlotsStand, joined_at}
 use Rattle.ready_driver.proofs.Slots.{slots-joined}

@@ -1,5 +1,5 @@
 use Rattle.std.proofs.Common.{refl}
-use Rattle.ring_core.specs.Step.{step}
+use Rattle.machine.specs.Step.{step}
 use Rattle.ready_driver.proofs.readiness.worked_runs.Goals as goal
 
 pub returns-clause-one_wait : goal.returns-clause-one_wait

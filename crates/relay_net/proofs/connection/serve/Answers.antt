@@ -3,7 +3,7 @@ use Rattle.ready_driver.specs.LegacyState.{ops_in}
 use Rattle.relay_net.specs.declared.connection.Served.TheVariants.{Open}
 use Rattle.relay_net.proofs.Connections.{going_over, serves_closed, serves_then}
 use Rattle.relay_net.proofs.Keyed.{keeps_then}
-use Rattle.relay_net.proofs.Rounds.{both_forward}
+use Rattle.relay_net.proofs.Stepping.{both_forward}
 use Rattle.relay_net.proofs.Seeing.{seen_then}
 use Rattle.relay_net.proofs.connection.serve.Goals as goal
 

@@ -1,6 +1,6 @@
 use Rattle.std.proofs.Common.{ap, not}
 use Rattle.relay_net.proofs.Connections.{back_serves}
-use Rattle.relay_net.proofs.Rounds.{back_forwards, none_forwards}
+use Rattle.relay_net.proofs.Stepping.{back_forwards, none_forwards}
 use Rattle.relay_net.proofs.connection.step_back.Goals as goal
 
 pub returns-in-Some-clause-serves : goal.returns-in-Some-clause-serves

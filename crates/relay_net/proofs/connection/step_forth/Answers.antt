@@ -1,6 +1,6 @@
 use Rattle.std.proofs.Common.{ap, not}
 use Rattle.relay_net.proofs.Connections.{forth_serves}
-use Rattle.relay_net.proofs.Rounds.{forth_forwards}
+use Rattle.relay_net.proofs.Stepping.{forth_forwards}
 use Rattle.relay_net.proofs.connection.step_forth.Goals as goal
 
 pub returns-clause-serves : goal.returns-clause-serves

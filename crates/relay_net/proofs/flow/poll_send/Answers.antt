@@ -12,13 +12,14 @@ use Rattle.relay_net.proofs.flow.poll_send.Goals as goal
 pub returns-in-Ok-Pending-clause-flows : goal.returns-in-Ok-Pending-clause-flows
 returns-in-Ok-Pending-clause-flows g c =
     send_waits g.I.NonBlock.view g.I.NonBlock.tells g.I.NonBlock.memory g.I.NonBlock.files g.I.Calls.called g.met.I.NonBlock.calls
-    c.args.driver.now c.poll_op.new.self c.args.op c.in-Ok-Pending.op c.in-Ok-Pending.field-0 0 c.args.from c.args.to c.args.count
+    c.args.driver.now c.poll_op.new.self c.args.op c.in-Ok-Pending.op c.in-Ok-Pending.field-0 0 c.args.room c.args.from c.args.to
+    c.args.count
     c.in-Ok-Pending.field-0-is c.in-Ok-Pending.ensures.polls c.in-Ok-Pending.ensures.tokens c.requires.pending
 
 pub returns-in-Ok-Ready-clause-flows : goal.returns-in-Ok-Ready-clause-flows
 returns-in-Ok-Ready-clause-flows g c =
     send_ended g.I.NonBlock.view g.I.NonBlock.tells g.I.NonBlock.memory g.I.NonBlock.files g.I.Calls.called g.met.I.NonBlock.calls
-    c.args.driver.now c.poll_op.new.self c.args.op c.in-Ok-Ready.done 0 c.args.from c.args.to c.args.count c.sent_buffer.result
+    c.args.driver.now c.poll_op.new.self c.args.op c.in-Ok-Ready.done 0 c.args.room c.args.from c.args.to c.args.count c.sent_buffer.result
     c.sent.result.0 c.sent.result.1
     (subst (λ a. LegacyPolls g.I.NonBlock.files built g.I.Calls.called g.I.NonBlock.view g.I.NonBlock.tells g.I.NonBlock.memory
     c.args.driver.now c.poll_op.new.self c.args.op 0 (Ok a)) c.in-Ok-Ready.field-0-is c.in-Ok-Ready.ensures.polls) c.requires.pending
@@ -27,7 +28,7 @@ returns-in-Ok-Ready-clause-flows g c =
 pub returns-in-Err-clause-flows : goal.returns-in-Err-clause-flows
 returns-in-Err-clause-flows g c =
     send_stops g.I.NonBlock.view g.I.NonBlock.tells g.I.NonBlock.memory g.I.NonBlock.files g.I.Calls.called g.met.I.NonBlock.calls
-    c.args.driver.now c.poll_op.new.self c.args.op c.in-Err.op c.in-Err.field-0-0 0 c.args.from c.args.to c.args.count
+    c.args.driver.now c.poll_op.new.self c.args.op c.in-Err.op c.in-Err.field-0-0 0 c.args.room c.args.from c.args.to c.args.count
     c.in-Err.ensures.polls
     c.in-Err.ensures.tokens c.requires.pending
 
@@ -84,13 +85,14 @@ pub returns-in-Ok-Pending-clause-forwards : goal.returns-in-Ok-Pending-clause-fo
 returns-in-Ok-Pending-clause-forwards g c = λ memory can goes.
     send_waits_on g.I.NonBlock.view g.I.NonBlock.tells g.I.NonBlock.memory g.met.I.NonBlock.memory_tells g.I.NonBlock.files g.I.Calls.called
     g.met.I.NonBlock.calls
-    c.args.driver.now c.poll_op.new.self c.args.op c.in-Ok-Pending.op c.in-Ok-Pending.field-0 0 c.args.from c.args.to c.args.count _ _
+    c.args.driver.now c.poll_op.new.self c.args.op c.in-Ok-Pending.op c.in-Ok-Pending.field-0 0 c.args.room c.args.from c.args.to
+    c.args.count _ _
     c.in-Ok-Pending.field-0-is c.in-Ok-Pending.ensures.polls c.requires.pending memory can
 
 pub returns-in-Ok-Ready-clause-forwards : goal.returns-in-Ok-Ready-clause-forwards
 returns-in-Ok-Ready-clause-forwards g c = λ memory can goes.
     send_comes g.I.NonBlock.view g.I.NonBlock.tells g.I.NonBlock.memory g.met.I.NonBlock.memory_tells g.I.NonBlock.files g.I.Calls.called
     g.met.I.NonBlock.calls
-    c.args.driver.now c.poll_op.new.self c.args.op c.in-Ok-Ready.field-0 c.in-Ok-Ready.done 0 c.args.from c.args.to c.args.count
+    c.args.driver.now c.poll_op.new.self c.args.op c.in-Ok-Ready.field-0 c.in-Ok-Ready.done 0 c.args.room c.args.from c.args.to c.args.count
     c.sent_buffer.result c.sent.result.0 c.in-Ok-Ready.field-0-is c.in-Ok-Ready.ensures.polls c.requires.pending
     c.sent_buffer.ensures memory can.to_stream

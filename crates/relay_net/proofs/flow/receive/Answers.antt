@@ -1,6 +1,6 @@
 use Rattle.std.proofs.Common.{ap}
 use Rattle.rent_buf.specs.Buf.{built}
-use Rattle.ring_core.specs.Request.{plain_request}
+use Rattle.machine.specs.Request.{plain_request}
 use Rattle.relay_net.proofs.flow.receive.Goals as goal
 
 pub received_buffer-buf-requires : goal.received_buffer-buf-requires

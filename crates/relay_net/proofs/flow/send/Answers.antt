@@ -1,6 +1,6 @@
 use Rattle.std.proofs.Common.{ap}
 use Rattle.rent_buf.specs.Buf.{built}
-use Rattle.ring_core.specs.Request.{plain_request}
+use Rattle.machine.specs.Request.{plain_request}
 use Rattle.relay_net.proofs.flow.send.Goals as goal
 
 pub sent_buffer-requires : goal.sent_buffer-requires

@@ -1,6 +1,6 @@
 use Rattle.std.proofs.Common.{◌≡◌, refl}
 use Rattle.rent_buf.specs.Buf.{built}
-use Rattle.ring_core.specs.Request.{plain_request}
+use Rattle.machine.specs.Request.{plain_request}
 use Rattle.relay_net.proofs.Calls.{submitted_pends, submitted_stays}
 use Rattle.relay_net.proofs.Listens.{submitted_bits}
 use Rattle.relay_net.proofs.Keyed.{refused_keys, submitted_keys}

@@ -11,11 +11,12 @@ use Rattle.relay_net.proofs.Keyed.{keeps_then}
 use Rattle.relay_net.specs.Forwarding.{AreUntouched}
 use Rattle.relay_net.proofs.Rounds.{untouched_pushed, untouched_widens}
 use Rattle.relay_net.proofs.opening.open_one.Goals as goal
-use Rattle.ring_core.proofs.Appended.{get-append-end}
+use Rattle.machine.proofs.Appended.{get-append-end}
 
 pub returns-then-is_err-clause-sound : goal.returns-then-is_err-clause-sound
 returns-then-is_err-clause-sound g c =
-    subst (IsSound (ops_in c.release.new.driver) c.release.new.driver.handling.table c.args.state.now.listener c.args.state.now.accept)
+    subst (IsSound c.args.state.now.room (ops_in c.release.new.driver) c.release.new.driver.handling.table c.args.state.now.listener
+    c.args.state.now.accept)
     (sym c.reserve.ensures.items)
     (released_sound g.I.NonBlock.view g.I.NonBlock.tells c.args.state.now.driver c.release.new.driver c.args.state.now.listener
     c.args.state.now.accept c.args.state.now.open.items
@@ -30,12 +31,14 @@ returns-then-is_err-clause-opening g c = λ start was opening.
 
 pub returns-in-Ok-clause-sound : goal.returns-in-Ok-clause-sound
 returns-in-Ok-clause-sound g c =
-    subst (IsSound (ops_in c.far.new.driver) c.far.new.driver.handling.table c.args.state.now.listener c.args.state.now.accept)
+    subst (IsSound c.args.state.now.room (ops_in c.far.new.driver) c.far.new.driver.handling.table c.args.state.now.listener
+    c.args.state.now.accept)
     (sym (c.push_reserved.ensures.items ∙ ap (λ xs. xs ++ c.new.result ∷ []) c.reserve.ensures.items))
     (opened_sound g.I.NonBlock.view g.I.NonBlock.tells c.args.state.now.driver c.far.new.driver c.args.state.now.listener
     c.args.state.now.accept
     c.args.state.now.open.items c.args.near c.in-Ok.far c.new.result c.requires.sound c.far.ensures.widens c.far.ensures.ops
-    c.requires.fresh c.in-Ok.ensures.far c.new.ensures.handles (c.new.ensures.fits (ops_in c.far.new.driver)))
+    c.requires.fresh c.in-Ok.ensures.far c.new.ensures.handles (c.new.ensures.fits (ops_in c.far.new.driver))
+    c.new.ensures.room)
 
 pub returns-in-Ok-clause-opening : goal.returns-in-Ok-clause-opening
 returns-in-Ok-clause-opening g c = λ start was opening.
@@ -49,8 +52,8 @@ returns-in-Ok-clause-opening g c = λ start was opening.
 
 pub returns-in-Err-clause-sound : goal.returns-in-Err-clause-sound
 returns-in-Err-clause-sound g c =
-    subst (IsSound (ops_in c.release-in-Err.new.driver) c.release-in-Err.new.driver.handling.table c.args.state.now.listener
-    c.args.state.now.accept)
+    subst (IsSound c.args.state.now.room (ops_in c.release-in-Err.new.driver) c.release-in-Err.new.driver.handling.table
+    c.args.state.now.listener c.args.state.now.accept)
     (sym c.reserve.ensures.items)
     (released_sound g.I.NonBlock.view g.I.NonBlock.tells c.far.new.driver c.release-in-Err.new.driver c.args.state.now.listener
     c.args.state.now.accept
@@ -113,7 +116,8 @@ returns-in-Ok-clause-forwards g c = λ memory start was opening untouched.
     (opened_sound g.I.NonBlock.view g.I.NonBlock.tells c.args.state.now.driver c.far.new.driver c.args.state.now.listener
     c.args.state.now.accept
     c.args.state.now.open.items c.args.near c.in-Ok.far c.new.result c.requires.sound c.far.ensures.widens c.far.ensures.ops
-    c.requires.fresh c.in-Ok.ensures.far c.new.ensures.handles (c.new.ensures.fits (ops_in c.far.new.driver))).served
+    c.requires.fresh c.in-Ok.ensures.far c.new.ensures.handles (c.new.ensures.fits (ops_in c.far.new.driver))
+    c.new.ensures.room).served
     (opening_widens g.I.NonBlock.view g.I.NonBlock.tells start c.args.state.now.driver c.far.new.driver was
     c.args.state.now.open.items c.args.state.now.listener c.far.ensures.widens c.requires.sound.served opening)
     (untouched_widens g.I.NonBlock.view g.I.NonBlock.tells g.I.NonBlock.memory g.met.I.NonBlock.memory_tells start c.args.state.now.driver

@@ -24,7 +24,8 @@ end-requires-clause-far g c = (c.requires.sound.served.each c.args.at c.remove-c
 
 pub returns-clause-sound : goal.returns-clause-sound
 returns-clause-sound g c =
-    subst (IsSound (ops_in c.end.new.driver) c.end.new.driver.handling.table c.args.state.now.listener c.args.state.now.accept)
+    subst (IsSound c.args.state.now.room (ops_in c.end.new.driver) c.end.new.driver.handling.table c.args.state.now.listener
+    c.args.state.now.accept)
     (sym c.remove-conn.ensures.items)
     (sound_removed g.I.NonBlock.view g.I.NonBlock.tells c.args.state.now.driver c.end.new.driver c.args.state.now.listener
     c.args.state.now.accept c.args.state.now.open.items c.args.at c.remove-conn.result c.requires.sound

@@ -42,6 +42,7 @@ loop-at-preserved-then-branch g c =
       later = later-then (g.I.NonBlock.view c.args.state.now.driver.handling.io) (g.I.NonBlock.view c.loop-at.state.driver.handling.io)
           (g.I.NonBlock.view c.serve_at.new.state.driver.handling.io) before.later now.later;
       same = (now.same.0 ∙ before.same.0, now.same.1 ∙ before.same.1);
+      asks = now.asks ∙ before.asks;
       within = omega (arith, test, size, within, goes);
       fewer = omega (arith, fewer, goes);
       given = omega (arith, test, size, given, more, goes);
@@ -83,6 +84,7 @@ loop-at-preserved g c =
       later = later-then (g.I.NonBlock.view c.args.state.now.driver.handling.io) (g.I.NonBlock.view c.loop-at.state.driver.handling.io)
           (g.I.NonBlock.view c.serve_at.new.state.driver.handling.io) before.later now.later;
       same = (now.same.0 ∙ before.same.0, now.same.1 ∙ before.same.1);
+      asks = now.asks ∙ before.asks;
       within = omega (arith, test, size, within, goes);
       fewer = omega (arith, fewer, goes);
       given = omega (arith, test, size, given, more, goes);
@@ -111,6 +113,7 @@ loop-at-init g c =
       names = IsPermutation-refl _;
       later = later-same (g.I.NonBlock.view c.args.state.now.driver.handling.io);
       same = (refl, refl);
+      asks = refl;
       within = omega arith;
       fewer = omega arith;
       given = omega arith;

@@ -13,7 +13,7 @@ use Rattle.relay_net.proofs.state.serve_all.Given as goal
 -- The connections before this place had their round.
 abbrev pub invariant-loop-at : goal.invariant-loop-at
 invariant-loop-at g l = record {
-  sound : IsSound (ops_in l.state.driver) l.state.driver.handling.table l.state.listener l.state.accept l.state.open.items;
+  sound : IsSound l.state.room (ops_in l.state.driver) l.state.driver.handling.table l.state.listener l.state.accept l.state.open.items;
   serving : (start : LegacyState g.row.I.Denot Buf) (was : List Connection)
       → Serving g.I.NonBlock.view g.I.NonBlock.tells start was l.initial.state.driver l.initial.state.open.items
       l.initial.ended.closed.items l.initial.ended.failed.items
@@ -23,6 +23,7 @@ invariant-loop-at g l = record {
       (connections_in l.initial.state.open.items l.initial.ended.closed.items l.initial.ended.failed.items);
   later : IsLater (g.I.NonBlock.view l.initial.state.driver.handling.io) (g.I.NonBlock.view l.state.driver.handling.io);
   same : (l.state.listener ≡ l.initial.state.listener) × (l.state.accept ≡ l.initial.state.accept);
+  asks : l.state.room ≡ l.initial.state.room;
   within : l.at ≤ vec_len l.state.open;
   fewer : vec_len l.state.open ≤ vec_len l.initial.state.open;
   given : l.state.driver.given + 2 * vec_len l.state.open ≤ (l.initial.state.driver.given + 2 * vec_len l.initial.state.open) + 2 * l.at;

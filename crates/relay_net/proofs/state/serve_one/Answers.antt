@@ -1,7 +1,8 @@
-use Rattle.std.proofs.Common.{refl, subst}
+use Rattle.std.proofs.Common.{refl, subst, sym}
 use Rattle.std.proofs.lemmas.Option.{slice_get_read}
 use Rattle.ready_driver.specs.LegacyState.{ops_in}
 use Rattle.relay_net.specs.Connection.{IsOverIf}
+use Rattle.relay_net.specs.Flow.{IsLoad}
 use Rattle.relay_net.proofs.Closing.{served_going}
 use Rattle.relay_net.proofs.Places.{get_set}
 use Rattle.relay_net.proofs.Relays.{serving_set, sound_set}
@@ -14,6 +15,13 @@ pub serve-requires-clause-fits : goal.serve-requires-clause-fits
 serve-requires-clause-fits g c =
     (c.requires.sound.served.each c.args.at c.index_mut.result.now
     (slice_get_read c.args.state.now.open.items _ c.args.at c.index_mut.result.now refl c.requires.placed c.index_mut.ensures.value)).fits
+
+pub serve-requires-clause-roomy : goal.serve-requires-clause-roomy
+serve-requires-clause-roomy g c =
+    subst IsLoad (sym (c.requires.sound.served.each c.args.at c.index_mut.result.now
+    (slice_get_read c.args.state.now.open.items _ c.args.at c.index_mut.result.now refl c.requires.placed
+    c.index_mut.ensures.value)).room_is)
+    c.requires.sound.roomy
 
 pub serve-requires-clause-near : goal.serve-requires-clause-near
 serve-requires-clause-near g c =

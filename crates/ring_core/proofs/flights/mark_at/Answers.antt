@@ -1,6 +1,6 @@
 use Rattle.std.proofs.Common.{arith}
 use Rattle.ring_core.specs.Ring.{marked_by}
-use Rattle.ring_core.proofs.Amended.{amended-at, amended-past}
+use Rattle.machine.proofs.Amended.{amended-at, amended-past}
 use Rattle.ring_core.proofs.flights.mark_at.Goals as goal
 
 pub returns-then-slot-len-clause-items : goal.returns-then-slot-len-clause-items

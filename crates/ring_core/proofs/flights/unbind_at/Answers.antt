@@ -1,5 +1,5 @@
 use Rattle.ring_core.specs.Bound.{unbound}
-use Rattle.ring_core.proofs.Amended.{amended-at}
+use Rattle.machine.proofs.Amended.{amended-at}
 use Rattle.ring_core.proofs.flights.unbind_at.Goals as goal
 
 pub returns-clause-items : goal.returns-clause-items

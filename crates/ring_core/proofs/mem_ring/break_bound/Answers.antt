@@ -1,7 +1,7 @@
 use Rattle.std.proofs.Common.{[], ◌∷◌, ◌++◌, length, drop, sym, ◌∙◌, ap, subst, arith}
 use Rattle.std.proofs.lemmas.List.{append_assoc, append-nil}
-use Rattle.ring_core.specs.declared.request.TheConstants.{CANCELED}
-use Rattle.ring_core.specs.declared.request.Outcome.TheVariants.{Fail}
+use Rattle.machine.specs.declared.request.TheConstants.{CANCELED}
+use Rattle.machine.specs.declared.request.Outcome.TheVariants.{Fail}
 use Rattle.ring_core.specs.Bound.{TakesBound, completion_of, broken, bound_front}
 use Rattle.ring_core.proofs.Binding.{left-broken, next-broken, none-bound, none-broken, length-taken}
 use Rattle.ring_core.proofs.mem_ring.break_bound.Goals as goal

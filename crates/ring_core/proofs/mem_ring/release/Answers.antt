@@ -1,7 +1,7 @@
 use Rattle.std.proofs.Common.{◌++◌, length, take, drop, refl, sym, ◌∙◌, ap, arith}
 use Rattle.std.proofs.lemmas.List.{append-nil}
 use Rattle.ring_core.specs.Bound.{unbound, broken}
-use Rattle.ring_core.proofs.Amended.{length-amended}
+use Rattle.machine.proofs.Amended.{length-amended}
 use Rattle.ring_core.proofs.Binding.{behind-counted, unbound-parts}
 use Rattle.ring_core.proofs.mem_ring.release.Goals as goal
 

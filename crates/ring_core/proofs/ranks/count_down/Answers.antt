@@ -1,6 +1,6 @@
 use Rattle.ring_core.specs.Ranks.{less_one}
 use Rattle.std.proofs.Common.{refl}
-use Rattle.ring_core.proofs.Amended.{amended-at}
+use Rattle.machine.proofs.Amended.{amended-at}
 use Rattle.ring_core.proofs.ranks.count_down.Goals as goal
 
 pub returns-clause-items : goal.returns-clause-items

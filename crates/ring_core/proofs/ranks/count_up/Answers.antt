@@ -1,5 +1,5 @@
 use Rattle.std.proofs.Common.{suc, arith}
-use Rattle.ring_core.proofs.Amended.{amended-at}
+use Rattle.machine.proofs.Amended.{amended-at}
 use Rattle.ring_core.proofs.ranks.count_up.Goals as goal
 
 pub returns-clause-items : goal.returns-clause-items

@@ -1,6 +1,6 @@
 use Rattle.std.proofs.Common.{◌∙◌, ◌++◌, ◌∷◌, [], ap, arith, refl}
-use Rattle.ring_core.specs.declared.ledger.Event.TheVariants.{Give}
-use Rattle.ring_core.specs.declared.world.HandleKind.TheVariants.{Stream}
+use Rattle.machine.specs.declared.ledger.Event.TheVariants.{Give}
+use Rattle.machine.specs.declared.world.HandleKind.TheVariants.{Stream}
 use Rattle.session_core.proofs.Generating.{round-added, rounds-begun, rounds-done}
 use Rattle.session_core.proofs.generated.generated.Goals as goal
 

@@ -3,8 +3,8 @@ use Rattle.std.specs.List.{count_by}
 use Rattle.std.proofs.lemmas.Iterator.Adapters.{YieldsList-from_vec}
 use Rattle.std.proofs.lemmas.Iterator.Consumers.{YieldsList-turn, YieldsList-end}
 use Rattle.std.proofs.lemmas.List.{length_push}
-use Rattle.ring_core.specs.Ledger.{empty}
-use Rattle.ring_core.specs.Run.{after, replies}
+use Rattle.machine.specs.Ledger.{empty}
+use Rattle.machine.specs.Run.{after, replies}
 use Rattle.session_core.specs.declared.generated.TheConstants.{ENTRIES}
 use Rattle.session_core.specs.DriverKind.{completion}
 use Rattle.session_core.specs.Session.{SessionStands}

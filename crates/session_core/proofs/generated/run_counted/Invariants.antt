@@ -1,7 +1,7 @@
 use Rattle.std.proofs.Common.{◌≡◌, length, take}
 use Rattle.std.specs.List.{count_by}
-use Rattle.ring_core.specs.Ledger.{empty}
-use Rattle.ring_core.specs.Run.{after, replies}
+use Rattle.machine.specs.Ledger.{empty}
+use Rattle.machine.specs.Run.{after, replies}
 use Rattle.session_core.specs.declared.generated.TheConstants.{ENTRIES}
 use Rattle.session_core.specs.Session.{SessionStands}
 use Rattle.session_core.specs.Top.{is_ready, is_refused}

@@ -1,6 +1,6 @@
 use Rattle.std.proofs.Common.{◌≡◌, ◌≤◌, ◌+◌, List, length, IsTrue, None}
 use Rattle.std.specs.List.{AllZip}
-use Rattle.ring_core.specs.declared.ledger.Event.{Event}
+use Rattle.machine.specs.declared.ledger.Event.{Event}
 use Rattle.event_text.specs.TextLines.{AreEventsFor, lines}
 use Rattle.session_core.specs.DriverKind.{StandsOn}
 use Rattle.session_core.proofs.Running.{Ran}

@@ -1,5 +1,5 @@
 use Rattle.std.proofs.Common.{refl, Some}
-use Rattle.ring_core.specs.Ledger.{empty}
+use Rattle.machine.specs.Ledger.{empty}
 use Rattle.session_core.specs.declared.top.Kept.TheVariants.{Run}
 use Rattle.session_core.specs.DriverKind.{completion, KeepsRun}
 use Rattle.session_core.specs.Session.{SessionStands}

@@ -1,5 +1,5 @@
 use Rattle.std.proofs.Common.{refl, Some}
-use Rattle.ring_core.specs.Ledger.{empty}
+use Rattle.machine.specs.Ledger.{empty}
 use Rattle.ready_run.specs.ReadySession.{ReadyStands}
 use Rattle.session_core.specs.declared.top.Kept.TheVariants.{Ready}
 use Rattle.session_core.specs.DriverKind.{readiness, KeepsReady}

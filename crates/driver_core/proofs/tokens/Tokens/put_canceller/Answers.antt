@@ -1,5 +1,5 @@
 use Rattle.std.proofs.Common.{arith}
-use Rattle.ring_core.proofs.Amended.{amended-at, amended-past}
+use Rattle.machine.proofs.Amended.{amended-at, amended-past}
 use Rattle.driver_core.proofs.tokens.Tokens.put_canceller.Goals as goal
 
 pub returns-then-c-len-clause-put : goal.returns-then-c-len-clause-put

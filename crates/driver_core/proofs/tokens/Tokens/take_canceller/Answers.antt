@@ -1,5 +1,5 @@
 use Rattle.std.proofs.Common.{arith, sym}
-use Rattle.ring_core.proofs.Amended.{amended-at, amended-past}
+use Rattle.machine.proofs.Amended.{amended-at, amended-past}
 use Rattle.driver_core.proofs.KeptTokens.{token_at-past}
 use Rattle.driver_core.proofs.tokens.Tokens.take_canceller.Goals as goal
 

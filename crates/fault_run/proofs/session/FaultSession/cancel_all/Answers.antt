@@ -1,5 +1,5 @@
 use Rattle.std.proofs.Common.{Some, ap, inr, refl, sym, ◌∙◌}
-use Rattle.ring_core.specs.Lists.{amended}
+use Rattle.machine.specs.Lists.{amended}
 use Rattle.driver_core.specs.Tokens.{cancellers_in}
 use Rattle.fault_run.proofs.Answering.{filled, group-there}
 use Rattle.fault_run.proofs.session.FaultSession.cancel_all.Goals as goal

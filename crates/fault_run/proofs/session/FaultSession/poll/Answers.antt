@@ -1,6 +1,6 @@
 use Rattle.std.proofs.Common.{Some, ap, inr, refl, sym, ◌∙◌}
-use Rattle.ring_core.specs.Lists.{amended}
-use Rattle.ring_core.specs.declared.ledger.Reply.TheVariants.{Handed}
+use Rattle.machine.specs.Lists.{amended}
+use Rattle.machine.specs.declared.ledger.Reply.TheVariants.{Handed}
 use Rattle.driver_core.specs.Tokens.{by_number, token_at}
 use Rattle.driver_core.specs.declared.op.PollOp.TheVariants.{Pending, Ready}
 use Rattle.driver_core.proofs.KeptTokens.{put-taken, token_at-emptied}

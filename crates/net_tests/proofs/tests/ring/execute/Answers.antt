@@ -1,5 +1,5 @@
 use Rattle.rent_buf.specs.Rent.{buffer_of_rent}
-use Rattle.ring_core.specs.declared.request.Told.TheVariants.{Count}
+use Rattle.machine.specs.declared.request.Told.TheVariants.{Count}
 use Rattle.uring_driver.specs.Op.{ops_in}
 use Rattle.op_driver.proofs.Executed.{executed_back}
 use Rattle.net_stream.proofs.Executions.{executed_fits}

@@ -1,4 +1,4 @@
-use Rattle.ring_core.specs.declared.world.HandleKind.TheVariants.{Stream}
+use Rattle.machine.specs.declared.world.HandleKind.TheVariants.{Stream}
 use Rattle.ready_driver.proofs.Dialing.{naming-opened, shown-opened}
 use Rattle.ready_driver.proofs.legacy.LegacyDriver.dial.Goals as goal
 

@@ -1,6 +1,6 @@
 use Rattle.std.proofs.Common.{◌≡◌, Some, sym, ap, subst, ◌∙◌}
 use Rattle.std.specs.FinMap.{get}
-use Rattle.ring_core.specs.Request.{listed}
+use Rattle.machine.specs.Request.{listed}
 use Rattle.driver_core.specs.Holds.{named_in, without_ops, unheld_by, CanLeave}
 use Rattle.driver_core.specs.Groups.{AreInSlots}
 use Rattle.driver_core.specs.Members.{leaves}

@@ -1,9 +1,9 @@
 use Rattle.std.proofs.Common.{◌≡◌, Some, ◌⊎◌, refl, sym, ap, subst, ◌∙◌}
 use Rattle.std.specs.Prelude.{Ok, Err}
 use Rattle.std.specs.FinMap.{get}
-use Rattle.ring_core.specs.Request.{named, listed, plain_request, held_of}
-use Rattle.ring_core.specs.Effect.{made_by}
-use Rattle.ring_core.specs.declared.ledger.Reply.TheVariants.{Pending as Waits, Handed}
+use Rattle.machine.specs.Request.{named, listed, plain_request, held_of}
+use Rattle.machine.specs.Effect.{made_by}
+use Rattle.machine.specs.declared.ledger.Reply.TheVariants.{Pending as Waits, Handed}
 use Rattle.driver_core.specs.Groups.{AreInSlots}
 use Rattle.driver_core.specs.declared.op.PollOp.TheVariants.{Pending, Ready}
 use Rattle.driver_core.specs.Holds.{is_maker, named_in, without_ops, unheld_by, CanLeave}

@@ -1,6 +1,6 @@
 use Rattle.std.proofs.Common.{◌≡◌, ◌<◌, true, IfSome, refl, sym, ap, subst, ◌∙◌}
 use Rattle.std.specs.FinMap.{get, insert}
-use Rattle.ring_core.specs.Request.{named}
+use Rattle.machine.specs.Request.{named}
 use Rattle.driver_core.specs.declared.operations.TheConstants.{MOST_GIVEN}
 use Rattle.driver_core.specs.Groups.{AreInSlots}
 use Rattle.driver_core.specs.Holds.{with_ops, CanJoin}

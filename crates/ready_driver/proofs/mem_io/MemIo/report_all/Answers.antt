@@ -1,7 +1,7 @@
 use Rattle.std.proofs.Common.{◌≡◌, ◌++◌, ◌∷◌, suc, ◌+◌, slice_get, Some, drop, sym, ◌∙◌, ap, arith}
 use Rattle.std.proofs.lemmas.List.{append_assoc}
-use Rattle.ring_core.specs.Attempt.{is_readable_at}
-use Rattle.ring_core.proofs.Keeping.{drop-suc}
+use Rattle.machine.specs.Attempt.{is_readable_at}
+use Rattle.machine.proofs.Appended.{drop-suc}
 use Rattle.ready_driver.specs.MemIo.{Memory}
 use Rattle.ready_driver.specs.Reports.{report_of, reports_of}
 use Rattle.ready_driver.proofs.mem_io.MemIo.report_all.Goals as goal

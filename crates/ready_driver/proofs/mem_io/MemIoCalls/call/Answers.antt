@@ -1,7 +1,7 @@
 use Rattle.std.proofs.Common.{◌≤◌, true, refl, sym, ◌∙◌, length, ap, subst, arith}
-use Rattle.ring_core.specs.Effect.{made_by}
-use Rattle.ring_core.specs.Request.{plain_request, listed}
-use Rattle.ring_core.proofs.Requests.{makes-mapped, named-mapped}
+use Rattle.machine.specs.Effect.{made_by}
+use Rattle.machine.specs.Request.{plain_request, listed}
+use Rattle.machine.proofs.Requests.{makes-mapped, named-mapped}
 use Rattle.ready_driver.specs.Due.{Duty}
 use Rattle.driver_core.specs.declared.operations.calls.CallAnswer.TheVariants.{WouldBlock}
 use Rattle.ready_driver.specs.Io.{IsMade, CallsFor}

@@ -1,5 +1,5 @@
 use Rattle.std.proofs.Common.{◌≤◌, length, refl, ◌∙◌, ap, arith}
-use Rattle.ring_core.proofs.Amended.{length-amended}
+use Rattle.machine.proofs.Amended.{length-amended}
 use Rattle.ready_driver.specs.MemIo.{Memory}
 use Rattle.ready_driver.proofs.Shown.{unkeyed-shown}
 use Rattle.ready_driver.proofs.mem_io.MemIoNonBlock.deregister.Goals as goal

@@ -1,5 +1,5 @@
 use Rattle.std.proofs.Common.{◌≤◌, length, Some, refl, ◌∙◌, ap, arith}
-use Rattle.ring_core.proofs.Amended.{length-amended}
+use Rattle.machine.proofs.Amended.{length-amended}
 use Rattle.ready_driver.specs.Due.{Duty}
 use Rattle.ready_driver.specs.MemIo.{Memory}
 use Rattle.ready_driver.proofs.Shown.{due-count, keyed-shown}

@@ -1,4 +1,4 @@
-use Rattle.ring_core.specs.declared.world.HandleKind.TheVariants.{Stream}
+use Rattle.machine.specs.declared.world.HandleKind.TheVariants.{Stream}
 use Rattle.ready_driver.proofs.Dialing.{opened-by}
 use Rattle.ready_driver.proofs.registry.Registry.dial.Goals as goal
 

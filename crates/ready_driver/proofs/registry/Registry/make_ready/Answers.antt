@@ -1,7 +1,7 @@
 use Rattle.std.proofs.Common.{[], ◌∷◌, sym, subst}
 use Rattle.std.specs.Prelude.{IfErr}
 use Rattle.std.proofs.lemmas.Result.{IfErr-weaker}
-use Rattle.ring_core.specs.Request.{listed}
+use Rattle.machine.specs.Request.{listed}
 use Rattle.ready_driver.specs.Registry.{RefusesReady}
 use Rattle.ready_driver.proofs.Still.{refused-first, refused-second}
 use Rattle.ready_driver.proofs.registry.Registry.make_ready.Goals as goal

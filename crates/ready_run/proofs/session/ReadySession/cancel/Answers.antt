@@ -1,7 +1,7 @@
 use Rattle.std.proofs.Common.{refl, ap, subst}
 use Rattle.rent_buf.specs.Buf.{built}
-use Rattle.ring_core.specs.declared.ledger.Event.TheVariants.{Cancel}
-use Rattle.ring_core.specs.declared.ledger.Reply.TheVariants.{Asked}
+use Rattle.machine.specs.declared.ledger.Event.TheVariants.{Cancel}
+use Rattle.machine.specs.declared.ledger.Reply.TheVariants.{Asked}
 use Rattle.ready_driver.specs.LegacyStands.{LegacyAnswers}
 use Rattle.ready_driver.specs.MemIo.{memory_view}
 use Rattle.ready_run.proofs.Kept.{tokens-same}

@@ -1,6 +1,6 @@
 use Rattle.std.proofs.Common.{◌≡◌, Some, None, refl, sym, ◌∙◌, ap, arith}
 use Rattle.std.proofs.lemmas.Option.{slice_get_within}
-use Rattle.ring_core.specs.Lists.{amended}
+use Rattle.machine.specs.Lists.{amended}
 use Rattle.driver_core.specs.Tokens.{token_at, cancellers_in}
 use Rattle.driver_core.proofs.KeptTokens.{emptied-none, put-taken}
 use Rattle.ready_driver.specs.LegacyCalls.{asking_in}

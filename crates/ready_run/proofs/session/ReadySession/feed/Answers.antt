@@ -1,6 +1,6 @@
 use Rattle.std.proofs.Common.{refl, sym, subst, ◌∙◌}
 use Rattle.rent_buf.specs.Buf.{built}
-use Rattle.ring_core.specs.declared.ledger.Event.TheVariants.{Feed}
+use Rattle.machine.specs.declared.ledger.Event.TheVariants.{Feed}
 use Rattle.ready_driver.specs.LegacyHandles.{RefusedFor}
 use Rattle.ready_run.proofs.Kept.{tokens-same}
 use Rattle.ready_run.proofs.Refusals.{cause-feed}

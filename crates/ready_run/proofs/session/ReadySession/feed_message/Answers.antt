@@ -1,7 +1,7 @@
 use Rattle.std.proofs.Common.{refl, sym, subst, ◌∙◌}
 use Rattle.rent_buf.specs.Buf.{built}
-use Rattle.ring_core.specs.declared.ledger.Event.{Event}
-use Rattle.ring_core.specs.declared.ledger.Event.TheVariants.{FeedMessage}
+use Rattle.machine.specs.declared.ledger.Event.{Event}
+use Rattle.machine.specs.declared.ledger.Event.TheVariants.{FeedMessage}
 use Rattle.ready_driver.specs.LegacyHandles.{RefusedFor}
 use Rattle.ready_run.proofs.Kept.{tokens-same}
 use Rattle.ready_run.proofs.Refusals.{cause-message}

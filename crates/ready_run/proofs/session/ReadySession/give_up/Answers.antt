@@ -1,8 +1,8 @@
 use Rattle.std.proofs.Common.{◌≡◌, None, refl, sym, subst, ◌∙◌}
 use Rattle.std.specs.FinMap as map
 use Rattle.rent_buf.specs.Buf.{built}
-use Rattle.ring_core.specs.declared.ledger.Event.TheVariants.{Drop}
-use Rattle.ring_core.specs.declared.ledger.Reply.TheVariants.{Dropped}
+use Rattle.machine.specs.declared.ledger.Event.TheVariants.{Drop}
+use Rattle.machine.specs.declared.ledger.Reply.TheVariants.{Dropped}
 use Rattle.driver_core.specs.Holds.{named_in, without_ops}
 use Rattle.driver_core.specs.Op.{key_of}
 use Rattle.driver_core.specs.Tokens.{token_at, by_number}

@@ -1,10 +1,10 @@
 use Rattle.std.proofs.Common.{◌≡◌, ◌<◌, true, length, None, refl, sym, subst, ◌∙◌}
 use Rattle.std.specs.Prelude.{Ok}
 use Rattle.rent_buf.specs.Buf.{built}
-use Rattle.ring_core.specs.Request.{held_of, plain_request}
-use Rattle.ring_core.specs.declared.entry.TheConstants.{MOST_HANDLES}
-use Rattle.ring_core.specs.declared.ledger.Event.TheVariants.{Poll}
-use Rattle.ring_core.specs.declared.ledger.Reply.TheVariants.{Pending, Handed}
+use Rattle.machine.specs.Request.{held_of, plain_request}
+use Rattle.machine.specs.declared.world.TheConstants.{MOST_HANDLES}
+use Rattle.machine.specs.declared.ledger.Event.TheVariants.{Poll}
+use Rattle.machine.specs.declared.ledger.Reply.TheVariants.{Pending, Handed}
 use Rattle.driver_core.specs.Op.{PollsTokens}
 use Rattle.driver_core.specs.Tokens.{token_at, by_number}
 use Rattle.driver_core.proofs.KeptTokens.{emptied-none}

@@ -1,5 +1,5 @@
 use Rattle.std.proofs.Common.{◌+◌, sym, subst, add-one, arith}
-use Rattle.ring_core.specs.Ledger.{empty}
+use Rattle.machine.specs.Ledger.{empty}
 use Rattle.ready_run.specs.ReadySession.{ReadyStands}
 use Rattle.ready_run.specs.Runs.{PendingWhenBlocked, CanceledWhenAsked}
 use Rattle.ready_run.proofs.Runs.{get-there, driven-at, after-one_more, replies-one_more, replies-done, ledger-done}

@@ -1,5 +1,5 @@
 use Rattle.std.proofs.Common.{◌≡◌, ◌≤◌, ◌++◌, ℕ, length, take, drop, vec_len, vec_capacity}
-use Rattle.ring_core.specs.Ledger.{empty}
+use Rattle.machine.specs.Ledger.{empty}
 use Rattle.ready_driver.specs.Spelled.{spelled_after, spelled_replies}
 use Rattle.ready_run.specs.ReadySession.{ReadyStands}
 use Rattle.ready_run.proofs.session.ReadySession.run.Given as goal

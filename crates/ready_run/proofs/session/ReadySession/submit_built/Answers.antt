@@ -1,6 +1,6 @@
 use Rattle.std.proofs.Common.{true, refl, subst}
 use Rattle.rent_buf.specs.Buf.{built}
-use Rattle.ring_core.specs.Request.{plain_request}
+use Rattle.machine.specs.Request.{plain_request}
 use Rattle.ready_driver.specs.LegacyCalls.{AddsToken, JoinsFor}
 use Rattle.ready_driver.specs.LegacyStands.{SubmitsFor}
 use Rattle.ready_driver.specs.MemIo.{memory_view}

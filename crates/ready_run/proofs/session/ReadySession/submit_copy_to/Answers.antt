@@ -1,5 +1,5 @@
 use Rattle.std.proofs.Common.{false, refl, subst}
-use Rattle.ring_core.specs.declared.ledger.Event.TheVariants.{Submit}
+use Rattle.machine.specs.declared.ledger.Event.TheVariants.{Submit}
 use Rattle.ready_run.specs.ReadySession.{StepsFor}
 use Rattle.ready_run.proofs.Kept.{tokens-same}
 use Rattle.ready_run.proofs.Steps.{answers-refused}

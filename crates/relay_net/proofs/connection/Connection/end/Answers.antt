@@ -1,8 +1,16 @@
+use Rattle.ready_driver.specs.LegacyState.{ops_in}
 use Rattle.relay_net.specs.Connection.{far_of, near_of}
-use Rattle.relay_net.proofs.Connections.{abandons_ends, ends_then, releases_near}
+use Rattle.relay_net.proofs.Connections.{abandons_ends, back_kept, ends_then, releases_near}
 use Rattle.relay_net.proofs.Keyed.{keeps_then}
 use Rattle.relay_net.proofs.Seeing.{but_near, but_then, seen_but}
 use Rattle.relay_net.proofs.connection.Connection.end.Goals as goal
+
+pub end_back-requires-clause-fits : goal.end_back-requires-clause-fits
+end_back-requires-clause-fits g c = (
+  c.args.self.room,
+  (back_kept c.args.self.room (ops_in c.args.driver.now) (ops_in c.abandon.new.driver) (near_of c.args.self) (far_of c.args.self)
+      c.args.self.back c.abandon.ensures.drops.ops c.requires.fits.1).0,
+)
 
 pub returns-clause-ends : goal.returns-clause-ends
 returns-clause-ends g c =

@@ -8,7 +8,8 @@ use Rattle.relay_net.proofs.flow.drops.drop_receive.Goals as goal
 pub returns-clause-drops : goal.returns-clause-drops
 returns-clause-drops g c =
     dropped_abandons g.I.NonBlock.view g.I.NonBlock.tells g.I.NonBlock.memory c.args.driver.now c.drop_op.new.self c.args.op c.args.from
-    c.args.to (IsReceive c.args.from) c.drop_op.ensures.drops c.requires.pending (receive_apart c.args.from c.args.to)
+    c.args.to (IsReceive c.requires.pending.0 c.args.from) c.drop_op.ensures.drops c.requires.pending.1
+    (receive_apart c.requires.pending.0 c.args.from c.args.to)
 
 pub returns-clause-keyed : goal.returns-clause-keyed
 returns-clause-keyed g c =

@@ -7,7 +7,7 @@ use Rattle.relay_net.proofs.relay.ending.end_each.Given as goal
 -- Those that are left are served, and no handle was made.
 abbrev pub invariant-loop-conn : goal.invariant-loop-conn
 invariant-loop-conn g l = record {
-  served : AreServed (ops_in l.driver) l.driver.handling.table l.fn.listener l.conns.items;
+  served : AreServed l.fn.room (ops_in l.driver) l.driver.handling.table l.fn.listener l.conns.items;
   later : IsLater (g.I.NonBlock.view l.initial.driver.handling.io) (g.I.NonBlock.view l.driver.handling.io);
   made : (g.I.NonBlock.view l.driver.handling.io).made ≡ (g.I.NonBlock.view l.initial.driver.handling.io).made;
 }

@@ -1,10 +1,10 @@
 use Rattle.std.proofs.Common.{◌≡◌, length, sym, ap, subst, ◌∙◌, arith}
-use Rattle.ring_core.specs.Lists.{amended}
+use Rattle.machine.specs.Lists.{amended}
 use Rattle.ring_core.specs.Bound.{unbound}
 use Rattle.ring_core.specs.Ranks.{kept}
 use Rattle.ring_core.specs.Flights.{words_of}
 use Rattle.ring_core.specs.Links.{AreLinked}
-use Rattle.ring_core.proofs.Amended.{amended-past}
+use Rattle.machine.proofs.Amended.{amended-past}
 use Rattle.ring_core.proofs.Binding.{kept-amended, words-unbound}
 use Rattle.ring_core.proofs.Keeping.{in_flight, length-kept}
 use Rattle.ring_core.proofs.flights.Flights.unbind.Goals as goal

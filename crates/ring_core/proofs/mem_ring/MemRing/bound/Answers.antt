@@ -1,6 +1,6 @@
 use Rattle.std.proofs.Common.{sym, ◌∙◌, ap, subst}
 use Rattle.ring_core.specs.declared.entry.Flight.{Flight}
-use Rattle.ring_core.specs.Lists.{passes}
+use Rattle.machine.specs.Lists.{passes}
 use Rattle.ring_core.specs.Bound.{HasLeader}
 use Rattle.ring_core.proofs.Leading.{led-first}
 use Rattle.ring_core.proofs.mem_ring.MemRing.bound.Goals as goal

@@ -2,7 +2,7 @@ use Rattle.std.proofs.Common.{false, [], ◌∷◌, ◌++◌, length, take, drop
 use Rattle.ring_core.specs.declared.entry.Flight.{Flight}
 use Rattle.ring_core.specs.Bound.{AreLed, left_behind}
 use Rattle.ring_core.specs.MemRing.{entry_at, completed}
-use Rattle.ring_core.proofs.Amended.{there-before}
+use Rattle.machine.proofs.Amended.{there-before}
 use Rattle.ring_core.proofs.Binding.{left-removed, length-removed}
 use Rattle.ring_core.proofs.Leading.{ends-alone, led-left}
 use Rattle.ring_core.proofs.Executed.{completes-alone}

@@ -1,6 +1,6 @@
 use Rattle.std.proofs.Common.{◌/◌, suc, length, sym, ap, subst, arith}
 use Rattle.ring_core.specs.Ranks.{AreCounted}
-use Rattle.ring_core.specs.Lists.{amended}
+use Rattle.machine.specs.Lists.{amended}
 use Rattle.ring_core.proofs.Counting.{block-few, group-few, region-few, counted-joined}
 use Rattle.ring_core.proofs.ranks.Ranks.push.Goals as goal
 

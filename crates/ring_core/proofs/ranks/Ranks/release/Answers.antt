@@ -1,6 +1,6 @@
 use Rattle.std.proofs.Common.{◌≡◌, ◌/◌, ◌∙◌, Some, true, false, set, slice_get, sym, ap, subst, arith}
 use Rattle.ring_core.specs.Ranks.{AreCounted, less_one}
-use Rattle.ring_core.specs.Lists.{amended}
+use Rattle.machine.specs.Lists.{amended}
 use Rattle.ring_core.proofs.Counting.{block-some, sums-some, counted-left}
 use Rattle.ring_core.proofs.ranks.Ranks.release.Goals as goal
 

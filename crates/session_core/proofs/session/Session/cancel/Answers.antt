@@ -1,7 +1,7 @@
 use Rattle.std.proofs.Common.{refl, subst}
 use Rattle.rent_buf.specs.Buf.{built}
-use Rattle.ring_core.specs.declared.ledger.Event.TheVariants.{Cancel}
-use Rattle.ring_core.specs.declared.ledger.Reply.TheVariants.{Asked}
+use Rattle.machine.specs.declared.ledger.Event.TheVariants.{Cancel}
+use Rattle.machine.specs.declared.ledger.Reply.TheVariants.{Asked}
 use Rattle.uring_driver.specs.Stands.{Answers}
 use Rattle.session_core.proofs.Refusals.{cause-cancel, no_token-lacks, token-owns, unrefused-cancel}
 use Rattle.session_core.proofs.Single.{single-same}

@@ -1,5 +1,5 @@
 use Rattle.std.proofs.Common.{refl, sym, subst, ◌∙◌}
-use Rattle.ring_core.specs.declared.ledger.Event.TheVariants.{Feed}
+use Rattle.machine.specs.declared.ledger.Event.TheVariants.{Feed}
 use Rattle.uring_driver.specs.Handles.{RefusedFor}
 use Rattle.session_core.proofs.Refusals.{cause-feed}
 use Rattle.session_core.proofs.Single.{has-held, single-same}

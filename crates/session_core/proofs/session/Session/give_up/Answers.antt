@@ -1,7 +1,7 @@
 use Rattle.std.proofs.Common.{◌≡◌, None, refl, sym, subst, ◌∙◌}
 use Rattle.rent_buf.specs.Buf.{built}
-use Rattle.ring_core.specs.declared.ledger.Event.TheVariants.{Drop}
-use Rattle.ring_core.specs.declared.ledger.Reply.TheVariants.{Dropped}
+use Rattle.machine.specs.declared.ledger.Event.TheVariants.{Drop}
+use Rattle.machine.specs.declared.ledger.Reply.TheVariants.{Dropped}
 use Rattle.uring_driver.specs.Stands.{Answers}
 use Rattle.driver_core.specs.Tokens.{token_at, by_number}
 use Rattle.driver_core.proofs.KeptTokens.{emptied-none}

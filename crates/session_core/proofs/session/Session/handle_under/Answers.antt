@@ -1,5 +1,5 @@
 use Rattle.std.proofs.Common.{refl, sym, ◌∙◌, ap, arith, slice_get}
-use Rattle.ring_core.specs.Ledger.{group_under}
+use Rattle.machine.specs.Ledger.{group_under}
 use Rattle.session_core.proofs.Canceling.{handle-made, handle-unmade}
 use Rattle.session_core.proofs.session.Session.handle_under.Goals as goal
 

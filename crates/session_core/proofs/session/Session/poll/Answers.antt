@@ -1,9 +1,9 @@
 use Rattle.std.proofs.Common.{◌≡◌, Some, None, ap, inl, refl, sym, subst, ◌∙◌}
 use Rattle.rent_buf.specs.Buf.{built}
-use Rattle.ring_core.specs.Lists.{amended}
-use Rattle.ring_core.specs.Request.{held_of, plain_request}
-use Rattle.ring_core.specs.declared.ledger.Event.TheVariants.{Poll}
-use Rattle.ring_core.specs.declared.ledger.Reply.TheVariants.{Pending, Handed}
+use Rattle.machine.specs.Lists.{amended}
+use Rattle.machine.specs.Request.{held_of, plain_request}
+use Rattle.machine.specs.declared.ledger.Event.TheVariants.{Poll}
+use Rattle.machine.specs.declared.ledger.Reply.TheVariants.{Pending, Handed}
 use Rattle.uring_driver.specs.Stands.{Answers}
 use Rattle.driver_core.specs.Tokens.{token_at, by_number}
 use Rattle.driver_core.proofs.KeptTokens.{emptied-none, token_at-emptied, put-taken}

@@ -1,6 +1,6 @@
 use Rattle.std.proofs.Common.{◌≡◌, ◌≤◌, ◌++◌, length, take, drop, vec_len, vec_capacity}
-use Rattle.ring_core.specs.Ledger.{empty}
-use Rattle.ring_core.specs.Run.{after, replies}
+use Rattle.machine.specs.Ledger.{empty}
+use Rattle.machine.specs.Run.{after, replies}
 use Rattle.session_core.specs.Session.{SessionStands}
 use Rattle.session_core.proofs.session.Session.run.Given as goal
 

@@ -1,6 +1,6 @@
 use Rattle.std.proofs.Common.{subst}
 use Rattle.rent_buf.specs.Buf.{built}
-use Rattle.ring_core.specs.Request.{plain_request}
+use Rattle.machine.specs.Request.{plain_request}
 use Rattle.uring_driver.specs.Submitted.{SubmitsFor, AddsToken, JoinsFor}
 use Rattle.ready_run.proofs.Kept.{tokens-same}
 use Rattle.session_core.proofs.Single.{single-joined}

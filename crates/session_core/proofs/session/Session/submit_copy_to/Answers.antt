@@ -1,5 +1,5 @@
 use Rattle.std.proofs.Common.{refl, subst}
-use Rattle.ring_core.specs.declared.ledger.Event.TheVariants.{Submit}
+use Rattle.machine.specs.declared.ledger.Event.TheVariants.{Submit}
 use Rattle.session_core.specs.Session.{StepsFor}
 use Rattle.ready_run.proofs.Kept.{tokens-same}
 use Rattle.session_core.proofs.Steps.{answers-refused}

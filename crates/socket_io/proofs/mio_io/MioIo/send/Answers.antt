@@ -1,5 +1,5 @@
 use Rattle.std.proofs.Common.{length, subst, sym}
-use Rattle.ring_core.specs.Request.{plain_request, sent_of}
+use Rattle.machine.specs.Request.{plain_request, sent_of}
 use Rattle.socket_io.specs.MioIo.{MovesFor}
 use Rattle.socket_io.proofs.mio_io.MioIo.send.Goals as goal
 

@@ -1,5 +1,5 @@
 use Rattle.std.proofs.Common.{sym, ◌∙◌, ◌≤◌, length, subst}
-use Rattle.ring_core.specs.Request.{plain_request, shown_by}
+use Rattle.machine.specs.Request.{plain_request, shown_by}
 use Rattle.ready_driver.proofs.Called.{on-ok}
 use Rattle.socket_io.proofs.Hosted.{appended-few}
 use Rattle.socket_io.proofs.mio_io.MioIo.send_shown.Goals as goal

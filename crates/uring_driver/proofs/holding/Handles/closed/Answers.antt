@@ -4,7 +4,7 @@ use Rattle.std.specs.FinMap.{get}
 use Rattle.handle_core.specs.Table.{nobody, without_operation}
 use Rattle.uring_driver.specs.Holding.{Holding, IsKept, closes}
 use Rattle.uring_driver.proofs.Closings.{kept-reaped}
-use Rattle.ring_core.proofs.Numbers.{some-of}
+use Rattle.machine.proofs.Numbers.{some-of}
 use Rattle.uring_driver.proofs.holding.Handles.closed.Goals as goal
 
 pub invariant_of-self : goal.invariant_of-self

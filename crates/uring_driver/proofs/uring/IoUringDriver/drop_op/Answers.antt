@@ -1,6 +1,6 @@
 use Rattle.std.proofs.Common.{refl, sym, subst}
-use Rattle.ring_core.specs.Request.{listed}
-use Rattle.ring_core.specs.Ledger.{with_made}
+use Rattle.machine.specs.Request.{listed}
+use Rattle.machine.specs.Ledger.{with_made}
 use Rattle.uring_driver.specs.Holding.{places}
 use Rattle.uring_driver.proofs.Leaving.{drop-names}
 use Rattle.driver_core.specs.Slot.{DropsAt}

@@ -1,7 +1,7 @@
 use Rattle.std.proofs.Common.{refl, sym, ap, subst, inl, inr, ◌∙◌, arith}
 use Rattle.std.specs.Prelude.{IfSome, ◌<◌}
 use Rattle.handle_core.specs.Table.{holders_at}
-use Rattle.ring_core.specs.Request.{named, listed}
+use Rattle.machine.specs.Request.{named, listed}
 use Rattle.uring_driver.specs.Holding.{places}
 use Rattle.uring_driver.specs.Making.{handed_if}
 use Rattle.uring_driver.specs.PollOp.{handed_by}

@@ -1,6 +1,6 @@
 use Rattle.std.proofs.Common.{◌≡◌, ◌<◌, true, refl, sym, ◌∙◌, ap, subst, arith}
 use Rattle.handle_core.specs.Table.{holders_at, without_user}
-use Rattle.ring_core.specs.declared.entry.TheConstants.{MOST_HANDLES}
+use Rattle.machine.specs.declared.world.TheConstants.{MOST_HANDLES}
 use Rattle.ring_core.specs.Entry.{close_entry}
 use Rattle.driver_core.specs.Holds.{is_nobody}
 use Rattle.uring_driver.specs.Holding.{places, user_left}

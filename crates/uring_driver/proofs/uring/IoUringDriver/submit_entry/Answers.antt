@@ -3,8 +3,8 @@ use Rattle.std.specs.FinMap as map
 use Rattle.op_slots.specs.declared.slab.TheConstants.{MAX_LIVE}
 use Rattle.ring_core.specs.Entry.{call_entry}
 use Rattle.ring_core.specs.Ring.{pushed}
-use Rattle.ring_core.specs.Request.{named, makes}
-use Rattle.ring_core.specs.Ranks.{one_if}
+use Rattle.machine.specs.Request.{named, makes}
+use Rattle.machine.specs.Lists.{one_if}
 use Rattle.driver_core.specs.declared.operations.TheConstants.{MOST_GIVEN}
 use Rattle.driver_core.specs.Holds.{CanJoin}
 use Rattle.driver_core.specs.Slot.{number_at}

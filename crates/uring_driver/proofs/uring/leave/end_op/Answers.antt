@@ -2,10 +2,10 @@ use Rattle.std.proofs.Common.{◌≡◌, ◌∙◌, inl, inr, ◌<◌, ◌∷◌
 use Rattle.std.specs.Prelude.{IfSome, ◌||◌}
 use Rattle.std.proofs.lemmas.List.{map-append}
 use Rattle.ring_core.specs.Entry.{close_entry}
-use Rattle.ring_core.specs.Lists.{has_number}
-use Rattle.ring_core.specs.Request.{listed}
-use Rattle.ring_core.proofs.Numbers.{same-or-not, equal-other}
-use Rattle.ring_core.specs.declared.entry.TheConstants.{MOST_HANDLES}
+use Rattle.machine.specs.Lists.{has_number}
+use Rattle.machine.specs.Request.{listed}
+use Rattle.machine.proofs.Numbers.{same-or-not, equal-other}
+use Rattle.machine.specs.declared.world.TheConstants.{MOST_HANDLES}
 use Rattle.driver_core.specs.Holds.{unheld_by}
 use Rattle.driver_core.proofs.Distinct.{not-both}
 use Rattle.uring_driver.specs.Making.{is_old, op_closes, lost_if, refuses_made}

@@ -1,10 +1,10 @@
 use Rattle.std.proofs.Common.{◌≡◌, ◌∙◌, ◌<◌, ◌∷◌, ℕ, [], true, map, sym, subst, ap, arith}
 use Rattle.std.proofs.lemmas.List.{map-append, length-map}
 use Rattle.ring_core.specs.Entry.{close_entry}
-use Rattle.ring_core.specs.Ledger.{with_made}
-use Rattle.ring_core.specs.Lists.{has_number}
-use Rattle.ring_core.specs.Request.{listed}
-use Rattle.ring_core.specs.declared.entry.TheConstants.{MOST_HANDLES}
+use Rattle.machine.specs.Ledger.{with_made}
+use Rattle.machine.specs.Lists.{has_number}
+use Rattle.machine.specs.Request.{listed}
+use Rattle.machine.specs.declared.world.TheConstants.{MOST_HANDLES}
 use Rattle.driver_core.specs.Holds.{unheld_by, without_ops}
 use Rattle.uring_driver.specs.Submissions.{PostsEach}
 use Rattle.uring_driver.proofs.Letting.{posts-append, posts-moves, unheld-both}

@@ -1,8 +1,8 @@
 use Rattle.std.proofs.Common.{[], ◌∷◌, ◌≡◌, ◌<◌, ℕ, true, map, sym, subst, ap}
 use Rattle.ring_core.specs.Entry.{close_entry}
-use Rattle.ring_core.specs.Lists.{has_number}
-use Rattle.ring_core.specs.declared.entry.TheConstants.{MOST_HANDLES}
-use Rattle.ring_core.specs.Request.{listed}
+use Rattle.machine.specs.Lists.{has_number}
+use Rattle.machine.specs.declared.world.TheConstants.{MOST_HANDLES}
+use Rattle.machine.specs.Request.{listed}
 use Rattle.driver_core.specs.Holds.{unheld_by}
 use Rattle.uring_driver.specs.Submissions.{PostsEach}
 use Rattle.uring_driver.proofs.Letting.{posts-on, below-on}

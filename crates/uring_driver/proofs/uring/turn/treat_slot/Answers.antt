@@ -3,7 +3,7 @@ use Rattle.driver_core.specs.Holds.{CanLeave}
 use Rattle.uring_driver.specs.Holding.{places}
 use Rattle.uring_driver.specs.Reaps.{PostsAll}
 use Rattle.uring_driver.specs.State.{IsSound}
-use Rattle.ring_core.specs.Request.{listed}
+use Rattle.machine.specs.Request.{listed}
 use Rattle.uring_driver.proofs.Holdings.{dropped-leave}
 use Rattle.uring_driver.proofs.Treating.{slots-stray, treats-completed, posts-completed}
 use Rattle.uring_driver.proofs.Completing.{reads-slot, not-refused, end-some, end-room, closes-read, ended-read, sound-ended, holding-ended}

@@ -7,7 +7,7 @@ use Rattle.relay_net.proofs.relay.memory.Relay+MemIo+F.end.Goals as goal
 
 pub invariant_of-self : goal.invariant_of-self
 invariant_of-self g c = (
-  subst (λ d. IsSound (ops_in d) d.handling.table c.self.inside.state.listener c.self.inside.state.accept
+  subst (λ d. IsSound c.self.inside.state.room (ops_in d) d.handling.table c.self.inside.state.listener c.self.inside.state.accept
       c.self.inside.state.open.items) (sym c.end.ensures.rest) c.self.invariant.0,
   c.self.invariant.1,
   c.self.invariant.2,

@@ -1,7 +1,7 @@
 use Rattle.std.proofs.Common.{arith, false, refl, sym, subst, Ok}
 use Rattle.ring_core.specs.Ring.{RingView}
-use Rattle.ring_core.specs.Payloads.{body_comes}
-use Rattle.ring_core.specs.Surroundings.{around}
+use Rattle.ring_core.specs.Bodies.{body_comes}
+use Rattle.machine.specs.Surroundings.{around}
 use Rattle.driver_core.specs.Groups.{AreInSlots}
 use Rattle.driver_core.specs.Operations.{offered, Stores}
 use Rattle.driver_core.proofs.Placing.{in-slots-kept}

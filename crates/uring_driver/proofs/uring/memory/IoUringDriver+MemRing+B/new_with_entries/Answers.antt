@@ -1,5 +1,5 @@
 use Rattle.std.proofs.Common.{ap, subst}
-use Rattle.ring_core.specs.Ledger.{empty}
+use Rattle.machine.specs.Ledger.{empty}
 use Rattle.ring_core.specs.Ring.{RingView}
 use Rattle.uring_driver.specs.Stands.{Stands}
 use Rattle.uring_driver.proofs.uring.memory.IoUringDriver+MemRing+B.new_with_entries.Goals as goal
