@@ -15,5 +15,5 @@ pub use members::{CancelHandle, Canceller, Members, Place};
 pub use op::{Done, Executed, Op, PollOp, Stop, SubmitError, SubmitFault, Submitted, Turned};
 pub use operations::{CallAnswer, Calls, MOST_GIVEN, Operations};
 pub use run::RunError;
-pub use slot::Slot;
+pub use slot::{Slot, is_maker, names_in};
 pub use tokens::Tokens;

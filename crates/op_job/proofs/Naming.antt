@@ -9,7 +9,7 @@ use Rattle.ready_driver.specs.declared.non_block.Report.{Report}
 use Rattle.ready_driver.specs.declared.records.Record.{Record}
 use Rattle.ready_driver.specs.declared.scheduled_io.Waiter.{Waiter}
 use Rattle.ready_driver.specs.Ready.{meets, mask_of}
-use Rattle.ready_driver.specs.Records.{Kept, io_at, quiet, record_at, with_io}
+use Rattle.ready_driver.specs.Records.{Kept, changed, changed_in, io_at, io_in, named_at, quiet, record_at, with_io}
 use Rattle.ready_driver.specs.ScheduledIo.{entry_of, left, taken, tasks_of, waiter_of}
 use Rattle.ready_driver.specs.ScheduledIo.{Scheduled, is_met as takes}
 use Rattle.ready_driver.specs.Turns.{reported, reported_each, with_report, woken_by, woken_each}
@@ -83,35 +83,45 @@ has_record kept h n w is = by (record_at kept h) refl is
     by None none found = absurd cc
     by (Some one) some found = refl
 
--- One report.
-one_treated : (kept : Kept) (report : Report) (h n : ℕ) (w : Waiter) → waiter_of (io_at kept h).waiting n ≡ Some w
+-- One report, by the handle of its key.
+one_in : (kept : Kept) (report : Report) (named : Option ℕ) (h n : ℕ) (w : Waiter) → waiter_of (io_at kept h).waiting n ≡ Some w
     → meets (io_at kept h).ready (mask_of w.direction) ≡ false
-    → Contains (woken_by kept report) w.task ⊎ IsTreated kept (reported kept report) h n w
-one_treated kept report h n w is unmet = elim (eqb_tells report.key h) [
+    → Contains (tasks_of (taken report.ready (io_in kept named).waiting)) w.task
+    ⊎ IsTreated kept (changed_in kept named (with_io (with_report report.ready))) h n w
+one_in kept report None h n w is unmet = inr (record { entry = is; unmet = unmet })
+one_in kept report (Some named) h n w is unmet = elim (eqb_tells named h) [
   | inl e ↦ by-met (takes report.ready w) refl e.1
   | inr e ↦
-      let same : io_at (reported kept report) h ≡ io_at kept h
-      = ap read (changed-other kept report.key (with_io (with_report report.ready)) h (λ q. e.1 (sym q))) in
+      let same : io_at (changed kept named (with_io (with_report report.ready))) h ≡ io_at kept h
+      = ap read (changed-other kept named (with_io (with_report report.ready)) h (λ q. e.1 (sym q))) in
       inr (record {
         entry = ap (λ io. waiter_of io.waiting n) same ∙ is;
         unmet = ap (λ io. meets io.ready (mask_of w.direction)) same ∙ unmet;
       })
 ]
   where
-    by-met : (b : Bool) → takes report.ready w ≡ b → report.key ≡ h
-        → Contains (woken_by kept report) w.task ⊎ IsTreated kept (reported kept report) h n w
-    by-met true met at = inl (taken_entry report.ready (io_at kept report.key).waiting n w
+    by-met : (b : Bool) → takes report.ready w ≡ b → named ≡ h
+        → Contains (tasks_of (taken report.ready (io_at kept named).waiting)) w.task
+        ⊎ IsTreated kept (changed kept named (with_io (with_report report.ready))) h n w
+    by-met true met at = inl (taken_entry report.ready (io_at kept named).waiting n w
         (subst (λ k. waiter_of (io_at kept k).waiting n ≡ Some w) (sym at) is) met)
     by-met false none at =
-        let there = has_record kept report.key n w (subst (λ k. waiter_of (io_at kept k).waiting n ≡ Some w) (sym at) is) in
-        let same : io_at (reported kept report) h ≡ with_report report.ready (io_at kept h)
-        = ap (io_at (reported kept report)) (sym at) ∙ io-changed kept report.key (with_report report.ready) there
+        let there = has_record kept named n w (subst (λ k. waiter_of (io_at kept k).waiting n ≡ Some w) (sym at) is) in
+        let same : io_at (changed kept named (with_io (with_report report.ready))) h ≡ with_report report.ready (io_at kept h)
+        = ap (io_at (changed kept named (with_io (with_report report.ready)))) (sym at)
+        ∙ io-changed kept named (with_report report.ready) there
         ∙ ap (λ k. with_report report.ready (io_at kept k)) at in
         inr (record {
           entry = ap (λ io. waiter_of io.waiting n) same ∙ left_entry report.ready (io_at kept h).waiting n w is none;
           unmet = ap (λ io. meets io.ready (mask_of w.direction)) same
               ∙ union_unmet (io_at kept h).ready report.ready (mask_of w.direction) unmet none;
         })
+
+-- One report.
+one_treated : (kept : Kept) (report : Report) (h n : ℕ) (w : Waiter) → waiter_of (io_at kept h).waiting n ≡ Some w
+    → meets (io_at kept h).ready (mask_of w.direction) ≡ false
+    → Contains (woken_by kept report) w.task ⊎ IsTreated kept (reported kept report) h n w
+one_treated kept report h n w is unmet = one_in kept report (named_at kept report.key) h n w is unmet
 
 -- Several, in order.
 each_treated : (reports : List Report) (kept : Kept) (h n : ℕ) (w : Waiter) → waiter_of (io_at kept h).waiting n ≡ Some w

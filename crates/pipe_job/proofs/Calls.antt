@@ -267,14 +267,14 @@ module _ {I : Type 0} (view : I → IoView) (tells memory : Bool) (called : Call
       (poll_makes files old new op task course done e ends is fits.2.moves) fits.2
 
   -- The object's counts don't fall as a handle that was made becomes its user's.
-  tries_later : (taken : Bool) (h : ℕ) (old new : IoView) → TriesFor tells memory h old new taken → IsLater old new
-  tries_later true h old new tries = tries.0.later
-  tries_later false h old new tries = tries.0.later
+  tries_later : (taken : Bool) (h key : ℕ) (old new : IoView) → TriesFor tells memory h key old new taken → IsLater old new
+  tries_later true h key old new tries = tries.0.later
+  tries_later false h key old new tries = tries.0.later
 
   hands_later : (old new : Handling I) (made : Option ℕ) → HandsOver view tells memory old made new → IsLater (view old.io) (view new.io)
   hands_later old new None hands = subst (λ h. IsLater (view old.io) (view h.io)) (sym hands)
       (same_later view tells memory called law (view old.io))
-  hands_later old new (Some h) hands = tries_later hands.1.taken h (view old.io) (view new.io) hands.1.tries
+  hands_later old new (Some h) hands = tries_later hands.1.taken h hands.1.key (view old.io) (view new.io) hands.1.tries
 
   -- Nor in a poll.
   pub poll_later : (files : I → ℕ → Bool) (old new : LegacyState I Rented) (op : Op) (task : ℕ)

@@ -6,7 +6,7 @@ use Rattle.ready_driver.specs.declared.records.Record.{Record}
 use Rattle.ready_driver.specs.Io.{IoView, IsDue, IsShown, KeepsShown}
 use Rattle.ready_driver.specs.Records.{Kept, quiet, record_at, io_at, changed, with_io}
 use Rattle.ready_driver.specs.ScheduledIo.{Scheduled}
-use Rattle.ready_driver.specs.Turns.{bits_after, KeepsBits}
+use Rattle.ready_driver.specs.Turns.{bits_by, KeepsBits}
 use Rattle.ready_driver.proofs.Recorded.{changed-at, changed-none, changed-other}
 
 -- The record of a handle changed in what isn't its bits.
@@ -31,16 +31,16 @@ bits-beside kept h change g e = ap (λ x. (unwrap_or (option_map (λ r. r.io) x)
 -- The bits stay.
 pub keeps-bits : (old new : IoView) (before after : Kept) → KeepsShown old new →
     ((h : ℕ) → (io_at after h).ready ≡ (io_at before h).ready) → KeepsBits old before new after
-keeps-bits old new before after keeps same = λ h reports shown.
-    subst (λ r. IsShown new h (bits_after h r reports)) (sym (same h)) (keeps h (bits_after h (io_at before h).ready reports) shown)
+keeps-bits old new before after keeps same = λ h key reports shown.
+    subst (λ r. IsShown new h (bits_by key r reports)) (sym (same h)) (keeps h (bits_by key (io_at before h).ready reports) shown)
 
 -- Those of a handle that is due may change.
 pub keeps-due : (old new : IoView) (before after : Kept) (n : ℕ) → KeepsShown old new → IsDue new n →
     ((h : ℕ) → h ≢ n → (io_at after h).ready ≡ (io_at before h).ready) → KeepsBits old before new after
-keeps-due old new before after n keeps due same = λ h reports shown. elim (same-or-not h n) [
+keeps-due old new before after n keeps due same = λ h key reports shown. elim (same-or-not h n) [
   | inl e ↦ λ keyed. inl (subst (IsDue new) (sym e) due keyed)
   | inr e ↦
-      subst (λ r. IsShown new h (bits_after h r reports)) (sym (same h e)) (keeps h (bits_after h (io_at before h).ready reports) shown)
+      subst (λ r. IsShown new h (bits_by key r reports)) (sym (same h e)) (keeps h (bits_by key (io_at before h).ready reports) shown)
 ]
 
 -- A record was written with the bits that it had: all bits stay.

@@ -1,6 +1,6 @@
 -- What opening a handle keeps of a driver.
-use Rattle.std.proofs.Common.{◌≡◌, ℕ, ◌||◌, Bool, false, List, sym, ◌∙◌, ap, subst}
-use Rattle.std.specs.Prelude.{is_some, unwrap_or, option_map, nat_le, IsTrue, Result, Ok, Err}
+use Rattle.std.proofs.Common.{◌≡◌, ℕ, ◌||◌, Bool, false, List, Some, sym, ◌∙◌, ap, subst, slice_get}
+use Rattle.std.specs.Prelude.{is_some, nat_le, IsTrue, Result, Ok, Err}
 use Rattle.std.specs.Ordering.{nat_cmp}
 use Rattle.std.specs.FinMap.{FinMap, get}
 use Rattle.machine.specs.declared.world.TheConstants.{MOST_HANDLES}
@@ -11,13 +11,13 @@ use Rattle.ready_driver.specs.declared.non_block.Report.{Report}
 use Rattle.ready_driver.specs.Dialing.{IsOpened, OpensFor}
 use Rattle.ready_driver.specs.Io.{IoView}
 use Rattle.ready_driver.specs.Named.{AreNaming}
-use Rattle.ready_driver.specs.Records.{quiet}
 use Rattle.ready_driver.specs.Registry.{Handling, is_known, is_old, IsSameButRoom, GivesUser}
 use Rattle.ready_driver.specs.Sockets.{IsGiven}
 use Rattle.ready_driver.specs.Turns.{AreShown}
 use Rattle.ready_driver.proofs.Naming.{naming-room, naming-given}
 use Rattle.ready_driver.proofs.Polled.{or-first}
-use Rattle.ready_driver.proofs.Showing.{shown-like, shown-given}
+use Rattle.ready_driver.proofs.Showing.{agree-record, keys-same, shown-like, shown-given}
+use Rattle.ready_driver.proofs.Shown.{key-before}
 use Rattle.handle_core.specs.Table.{Table}
 
 -- A handle that can be new is nobody's, also where reserved memory has changed.
@@ -37,6 +37,7 @@ opened-by view tells memory kind old way inside io h fd new is same fresh given 
           ∙ ap (is_old way.table) (given.number ∙ ap (λ x. (view x.io).made) is) ∙ fresh;
       holders = ap (λ x. x.table.holders) is ∙ same.table;
       handles = ap (λ x. x.records.handles) is ∙ same.records;
+      names = ap (λ x. x.records.names) is ∙ same.names;
       made = subst (λ o. IsGiven tells memory kind (view o) (view io) h) (ap (λ x. x.io) is ∙ same.io) given;
       user = user;
     })
@@ -58,9 +59,11 @@ pub shown-opened : {I : Type 0} (view : I → IoView) (reports : List Report) (t
 shown-opened view reports tells memory in_memory (Ok h) kind old new opens shown =
     shown-given view reports tells memory in_memory opens.mid new h opens.user
     (shown-like view reports old opens.mid (opens.made.shown in_memory)
+    (λ g key is. key-before (Some 0) (view old.io).keys g key (ap (λ ks. slice_get ks g) (sym (opens.made.keys in_memory)) ∙ is))
     (λ g held. sym (ap (λ m. is_some (get m g)) opens.holders) ∙ held)
-    (λ g held. ap (λ m. (unwrap_or (option_map (λ r. r.io) (get m g)) quiet).ready) opens.handles) shown)
+    (λ g held. agree-record old.records opens.mid.records g (ap (λ m. get m g) opens.handles)) shown)
 shown-opened view reports tells memory in_memory (Err why) kind old new opens shown =
     shown-like view reports old new (opens.object.shown in_memory)
+    (keys-same (view old.io) (view new.io) (opens.object.keys_are in_memory))
     (λ g held. sym (ap (λ m. is_some (get m g)) opens.holders) ∙ held)
-    (λ g held. ap (λ m. (unwrap_or (option_map (λ r. r.io) (get m g)) quiet).ready) opens.handles) shown
+    (λ g held. agree-record old.records new.records g (ap (λ m. get m g) opens.handles)) shown

@@ -140,10 +140,10 @@ module _ {I B : Type 0} (view : I → IoView) (buffer : B → Buffer) (tells mem
               (λ one. (let f : true ≡ false = sym (ap (λ n. n == 1) one) ∙ is in let g : ⊥ = cc in g))))
 
 -- What trying to register a handle in memory left: it is registered.
-pub tries-memory : (tells memory : Bool) (h : ℕ) (old new : IoView) (taken : Bool) → IsTrue memory → IsTrue tells →
-    TriesFor tells memory h old new taken → (new.world ≡ old.world) × (new.keys ≡ with_key old.keys h (Some h))
-tries-memory tells memory h old new true in_memory shows tries = (tries.0.world shows, tries.0.keys_are in_memory)
-tries-memory tells memory h old new false in_memory shows tries = absurd (tries.1 in_memory)
+pub tries-memory : (tells memory : Bool) (h key : ℕ) (old new : IoView) (taken : Bool) → IsTrue memory → IsTrue tells →
+    TriesFor tells memory h key old new taken → (new.world ≡ old.world) × (new.keys ≡ with_key old.keys h (Some key))
+tries-memory tells memory h key old new true in_memory shows tries = (tries.0.world shows, tries.0.keys_are in_memory)
+tries-memory tells memory h key old new false in_memory shows tries = absurd (tries.1 in_memory)
 
 -- A new handle in memory.
 pub stands-gives : {B : Type 0} (buffer : B → Buffer) (d : LegacyState Memory B) (D : Legacy) (kind : HandleKind) (fd : ℕ)
@@ -155,15 +155,16 @@ stands-gives buffer d D kind fd new old number few gives =
     let E : Legacy = record D { world = D.world ++ fresh kind ∷ []; users = D.users ++ true ∷ [] } in
     let same : d.handling.io.world ≡ D.world = old.parts.handles in
     let count : length d.handling.io.world ≡ length D.world = ap length same in
-    let tried = tries-memory true true (length d.handling.io.world) (memory_view (with_created d.handling kind).io) (memory_view new.io)
+    let tried = tries-memory true true (length d.handling.io.world) gives.key (memory_view (with_created d.handling kind).io) (memory_view
+    new.io)
     gives.taken refl refl gives.tries in
     let longer : length (D.world ++ fresh kind ∷ []) ≡ length D.world + 1 = length-append D.world (fresh kind ∷ []) in
     answers-row memory_view buffer D (Give kind) (Handle fd) (record d { handling = new }) refl (ap Handle (sym count ∙ sym number))
     (stands-like memory_view buffer d D old (record d { handling = new }) E refl refl refl
     (tried.0 ∙ ap (λ w. w ++ fresh kind ∷ []) same)
-    (standing-given d.handling.table d.handling.io.keys D old.handles new.table new.io.keys (D.world ++ fresh kind ∷ [])
+    (standing-given d.handling.table d.handling.io.keys D old.handles new.table new.io.keys (D.world ++ fresh kind ∷ []) gives.key
     (subst (λ n. new.table.holders ≡ insert d.handling.table.holders n by_user) count gives.table)
-    (subst (λ n. new.io.keys ≡ with_key (d.handling.io.keys ++ None ∷ []) n (Some n)) count tried.1) longer)
+    (subst (λ n. new.io.keys ≡ with_key (d.handling.io.keys ++ None ∷ []) n (Some gives.key)) count tried.1) longer)
     (record { marks = old.groups.marks; members = old.groups.members }) (omega (arith, longer, few, count)))
 
 -- What giving a handle answers.

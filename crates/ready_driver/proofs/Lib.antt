@@ -35,8 +35,11 @@ pub mod Starting
 pub mod Polled
 pub mod Arriving
 pub mod Asking
+pub mod Paired
+pub mod Entries
 pub mod Kept
 pub mod Recorded
+pub mod Agreeing
 pub mod Registering
 pub mod Still
 pub mod Reporting
@@ -47,6 +50,7 @@ pub mod Marking
 pub mod Unnamed
 pub mod Shown
 pub mod Bearing
+pub mod Owning
 pub mod Showing
 pub mod Exact
 pub mod Errors

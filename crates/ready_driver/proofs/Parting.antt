@@ -21,7 +21,7 @@ use Rattle.ready_driver.specs.HandlesStand.{HandlesStand}
 use Rattle.ready_driver.specs.Legacy.{Legacy, LegacyOp, holds_at, is_on, slot_in, slot_at}
 use Rattle.ready_driver.specs.LegacyStep.{freed}
 use Rattle.ready_driver.specs.Registry.{is_known, is_users, unheld_if, without_keys}
-use Rattle.ready_driver.specs.Reports.{with_key}
+use Rattle.ready_driver.specs.Reports.{has_key, is_keyed, with_key}
 use Rattle.ready_driver.proofs.Registering.{keys-kept}
 
 -- As many handles have a key, or none, as before.
@@ -116,7 +116,7 @@ module _ (table : Table) (keys : List (Option ℕ)) (D : Legacy) (st : HandlesSt
         omega (arith, less, was, count);
     keyed = λ k known.
         let before = left-known (named op.request) table keys k (named-leave n op there) known in
-        before.1 ∙ st.keyed k before.0;
+        ap has_key before.1 ∙ st.keyed k before.0;
     counted = st.counted;
     sized = length-without (unheld_by table (named op.request)) keys ∙ st.sized;
   }
@@ -152,11 +152,11 @@ module _ (table : Table) (keys : List (Option ℕ)) (D : Legacy) (st : HandlesSt
     where
       by : (b : Bool) → is_nobody (without_user (holders_at table h)) ≡ b → (k : ℕ) →
           is_known (settled table h (without_user (holders_at table h))) k ≡ true →
-          slice_get (without_keys keys (unheld_if b h)) k ≡ Some (Some k)
+          is_keyed (without_keys keys (unheld_if b h)) k ≡ true
       by true is k known =
           let was = settled-known table h (without_user (holders_at table h)) (is_nobody (without_user (holders_at table h)))
           (held-user table h held) k known in
-          get-amended-other (λ old. None) keys h k (was.1 is) ∙ st.keyed k was.0
+          ap has_key (get-amended-other (λ old. None) keys h k (was.1 is)) ∙ st.keyed k was.0
       by false is k known =
           let was = settled-known table h (without_user (holders_at table h)) (is_nobody (without_user (holders_at table h)))
           (held-user table h held) k known in

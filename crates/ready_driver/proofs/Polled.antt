@@ -160,7 +160,7 @@ module _ {I : Type 0} (view : I → IoView) (tells memory : Bool) (mid handed ne
   ended-world None same = lets.object.world shows ∙ ap (λ x. (view x.io).world) same
   ended-world (Some h) hands =
       lets.object.world shows
-      ∙ (tries-memory tells memory h (view mid.io) (view handed.io) hands.1.taken in_memory shows hands.1.tries).0
+      ∙ (tries-memory tells memory h hands.1.key (view mid.io) (view handed.io) hands.1.taken in_memory shows hands.1.tries).0
 
   pub ended-handles : (made : Option ℕ) → HandsOver view tells memory mid made handed → (view mid.io).keys ≡ with_made_key made keys →
       ((h : ℕ) → made ≡ Some h → h ≡ length D.world) → length world ≡ length D.world + length (option_to_list made) →
@@ -174,12 +174,12 @@ module _ {I : Type 0} (view : I → IoView) (tells memory : Bool) (mid handed ne
   ended-handles (Some h) hands keyed last count =
       let E : Legacy = record D { world = world; users = D.users ++ true ∷ [] } in
       let here : h ≡ length D.world = last h refl in
-      let tried = tries-memory tells memory h (view mid.io) (view handed.io) hands.1.taken in_memory shows hands.1.tries in
+      let tried = tries-memory tells memory h hands.1.key (view mid.io) (view handed.io) hands.1.taken in_memory shows hands.1.tries in
       left-handles view tells memory handed new E n op names in_memory
-      (standing-given mid.table keys D st handed.table (view handed.io).keys world
+      (standing-given mid.table keys D st handed.table (view handed.io).keys world hands.1.key
       (subst (λ k. handed.table.holders ≡ insert mid.table.holders k by_user) here hands.1.table)
-      (subst (λ k. (view handed.io).keys ≡ with_key (keys ++ None ∷ []) k (Some k)) here
-      (tried.1 ∙ ap (λ ks. with_key ks h (Some h)) keyed)) count) there is lets
+      (subst (λ k. (view handed.io).keys ≡ with_key (keys ++ None ∷ []) k (Some hands.1.key)) here
+      (tried.1 ∙ ap (λ ks. with_key ks h (Some hands.1.key)) keyed)) count) there is lets
 
 -- A driver that is one as plain data, and a poll of an operation of it, for which memory was reserved.
 module _ {I B : Type 0} (view : I → IoView) (buffer : B → Buffer) (d : LegacyState I B) (D : Legacy) (old : LegacyStands view buffer d D)

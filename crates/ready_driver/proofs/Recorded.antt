@@ -15,7 +15,7 @@ use Rattle.driver_core.specs.declared.op.PollOp.TheVariants.{Pending, Ready}
 use Rattle.ready_driver.specs.Awaits.{LeavesIo, LeavesIf, Leaves, without_bits, with_waiter, without_waiter}
 use Rattle.ready_driver.specs.Ready.{meets, mask_of}
 use Rattle.ready_driver.specs.ScheduledIo.{Scheduled}
-use Rattle.ready_driver.specs.Records.{Kept, quiet, record_at, io_at, changed_if, changed, with_io}
+use Rattle.ready_driver.specs.Records.{Kept, quiet, record_at, key_at, io_at, changed_if, changed, with_io}
 
 -- No bits meet no direction.
 pub none-meet : (dir : Direction) → meets 0 (mask_of dir) ≡ false
@@ -76,6 +76,14 @@ io-either P kept h f none some = by (record_at kept h) refl
     by : (x : Option Record) → record_at kept h ≡ x → P (io_at (changed kept h (with_io f)) h)
     by None is = subst P (sym (ap read (ap (λ k. record_at k h) (changed-none kept h (with_io f) is) ∙ is))) none
     by (Some one) is = subst P (sym (io-changed kept h f (subst IsSome (sym is) refl))) some
+
+-- A handle that has a key has a record.
+pub keyed-record : (kept : Kept) (h key : ℕ) → key_at kept h ≡ Some key → IsSome (record_at kept h)
+keyed-record kept h key keyed = by (record_at kept h) keyed
+  where
+    by : (x : Option Record) → option_map (λ r. r.key) x ≡ Some key → IsSome x
+    by None keyed = (let f : ⊥ = cc in absurd f)
+    by (Some one) keyed = refl
 
 -- What a poll left of the record that was looked up, it left of the records.
 pub leaves-record : {B : Type 0} (met : Bool) (old : Kept) (h : ℕ) (was : Scheduled) (entry : Waiter) (new : Kept) (now : Scheduled)

@@ -1,7 +1,7 @@
 -- What a table of holders and records keep true: just the handles that somebody holds have records, through each change of both.
 use Rattle.std.proofs.Common.{◌≡◌, ◌∙◌, inl, inr, ℕ, ◌<◌, Bool, true, false, Option, Some, None, option_map, refl, sym}
 use Rattle.std.proofs.Common.{ap, subst}
-use Rattle.std.specs.Prelude.{is_some, unwrap_or, Result, Ok, Err, IfSome}
+use Rattle.std.specs.Prelude.{is_some, unwrap_or, if◌then◌else◌, Result, Ok, Err, IfSome}
 use Rattle.std.specs.Ordering.{nat_cmp}
 use Rattle.std.specs.FinMap.{FinMap, get, empty, insert, remove, get-empty}
 use Rattle.handle_core.specs.declared.table.Holders.{Holders}
@@ -19,7 +19,7 @@ use Rattle.ready_driver.specs.Awaits.{LeavesIf, LeavesFor}
 use Rattle.ready_driver.specs.Ready.{meets, mask_of}
 use Rattle.ready_driver.specs.ScheduledIo.{entry_of}
 use Rattle.ready_driver.specs.Records.{Kept, io_at, record_at, is_registered, with_record, without_record, changed, changed_if}
-use Rattle.ready_driver.specs.Records.{with_registered}
+use Rattle.ready_driver.specs.Records.{with_registered, changed_in, changed_named, named_at, unregistered_at, unregistered_in}
 use Rattle.ready_driver.specs.Registry.{Handling, HasMadeRoom, is_known, AreRecorded}
 use Rattle.ready_driver.proofs.Recorded.{there-changed}
 
@@ -80,6 +80,14 @@ module _ (table : Table) (records : Kept) (all : AreRecorded table records) wher
   pub recorded-changed : (h : ℕ) (change : Record → Record) → AreRecorded table (changed records h change)
   recorded-changed h change = λ k. there-changed records h change k ∙ all k
 
+  -- So does that of the handle of a key.
+  pub recorded-named : (key : ℕ) (change : Record → Record) → AreRecorded table (changed_named records key change)
+  recorded-named key change = by (named_at records key)
+    where
+      by : (x : Option ℕ) → AreRecorded table (changed_in records x change)
+      by None = all
+      by (Some h) = recorded-changed h change
+
 -- A new handle is held, and has a record.
 pub recorded-new : (table : Table) (records : Kept) → AreRecorded table records → (h : ℕ) (new : Table) (now : Kept) (one : Record) →
     new.holders ≡ insert table.holders h by_user → now.handles ≡ insert records.handles h one → AreRecorded new now
@@ -107,6 +115,29 @@ registered-again records h is = by (registered-record records h is)
         ap (λ x. changed_if x records h (with_registered true)) there
         ∙ ap (λ b. with_record records h (record one { registered = b })) (sym registered)
         ∙ ap (λ m. record records { handles = m }) (put-self records.handles h one there)
+
+-- A handle that is registered, or has no record, has none to register.
+pub registered-none : (records : Kept) (h : ℕ) → is_registered records h ≡ true → unregistered_at records h ≡ None
+registered-none records h is = by (registered-record records h is)
+  where
+    by : (r : (one : Record) × (record_at records h ≡ Some one) × (one.registered ≡ true)) → unregistered_at records h ≡ None
+    by (one, there, registered) =
+        ap unregistered_in there ∙ ap (λ b. if◌then◌else◌ {A = Option ℕ} b None (Some one.key)) registered
+
+-- One that has a record that isn't registered: its record has the key.
+pub unregistered-record : (records : Kept) (h key : ℕ) → unregistered_at records h ≡ Some key →
+    (one : Record) × (record_at records h ≡ Some one) × (one.registered ≡ false) × (one.key ≡ key)
+unregistered-record records h key is = by (record_at records h) refl is
+  where
+    by : (x : Option Record) → record_at records h ≡ x → unregistered_in x ≡ Some key →
+        (one : Record) × (record_at records h ≡ Some one) × (one.registered ≡ false) × (one.key ≡ key)
+    by None there is = (let f : ⊥ = cc in absurd f)
+    by (Some one) there is = here one.registered refl is
+      where
+        here : (b : Bool) → one.registered ≡ b → if◌then◌else◌ {A = Option ℕ} b None (Some one.key) ≡ Some key →
+            (one : Record) × (record_at records h ≡ Some one) × (one.registered ≡ false) × (one.key ≡ key)
+        here true registered is = (let f : ⊥ = cc in absurd f)
+        here false registered is = (one, there, registered, ap (λ x. unwrap_or x one.key) is)
 
 -- What is left of the records by a poll by the bits has just the records that there were.
 pub recorded-left : {B : Type 0} (table : Table) (met : Bool) (old : Kept) (h : ℕ) (entry : Waiter) (new : Kept)

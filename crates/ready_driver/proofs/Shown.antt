@@ -1,5 +1,5 @@
 -- Handles in memory that are due, or that bits show: what each call keeps of that.
-use Rattle.std.proofs.Common.{◌≡◌, ◌≢◌, ◌⊎◌, inl, inr, ℕ, ◌<◌, ◌≤◌, Bool, true, false, not, ◌&&◌, List, [], ◌∷◌, ◌++◌}
+use Rattle.std.proofs.Common.{◌≡◌, ◌⊎◌, inl, inr, ℕ, ◌<◌, ◌≤◌, Bool, true, false, not, ◌&&◌, List, [], ◌∷◌, ◌++◌}
 use Rattle.std.proofs.Common.{if◌then◌else◌, length, Option, Some, None, option_map, slice_get, refl, sym, ◌∙◌, ap, subst, arith}
 use Rattle.std.specs.Prelude.{nat_lt}
 use Rattle.std.proofs.lemmas.Bool.Decides.{nat_tests}
@@ -21,7 +21,7 @@ use Rattle.machine.proofs.Appended.{get-append-within, get-append-end, get-appen
 use Rattle.ready_driver.specs.Due.{Duty, with_due, with_each_due}
 use Rattle.ready_driver.specs.Io.{IsDue, KeepsShown, AreDue}
 use Rattle.ready_driver.specs.MemIo.{Memory, memory_view}
-use Rattle.ready_driver.specs.Reports.{with_key, with_made_key, ShowsBits}
+use Rattle.ready_driver.specs.Reports.{has_key, is_keyed, with_key, with_made_key, ShowsBits}
 use Rattle.ready_driver.proofs.Unnamed.{called-other}
 
 -- What was due is once another handle is.
@@ -76,12 +76,25 @@ each-added duty (n ∷ handles) h within is = elim (same-or-not h n) [
       (sym (has-other h n handles e) ∙ is)
 ]
 
--- Of each handle: what was due is, and else it has its key and what it had, unless it is due.
+-- A handle that is registered has a key.
+pub keyed-key : (keys : List (Option ℕ)) (h : ℕ) → is_keyed keys h ≡ true → (key : ℕ) × (slice_get keys h ≡ Some (Some key))
+keyed-key keys h keyed = by (slice_get keys h) refl keyed
+  where
+    by : (x : Option (Option ℕ)) → slice_get keys h ≡ x → has_key x ≡ true → (key : ℕ) × (slice_get keys h ≡ Some (Some key))
+    by None is some = (let f : ⊥ = cc in absurd f)
+    by (Some None) is some = (let f : ⊥ = cc in absurd f)
+    by (Some (Some key)) is some = (key, is)
+
+-- So it is one of those that there are.
+keyed-within : (keys : List (Option ℕ)) (h : ℕ) → is_keyed keys h ≡ true → h < length keys
+keyed-within keys h keyed = let key = keyed-key keys h keyed in slice_get_within keys h (Some key.0) key.1
+
+-- Of each handle: what was due is, and else it is registered as it was and has what it had, unless it is due.
 pub record Stays (old new : Memory) : Type 0 where
   pub due : (h : ℕ) → has_number h old.due ≡ true → has_number h new.due ≡ true
-  pub each : (h : ℕ) → slice_get new.keys h ≡ Some (Some h) →
+  pub each : (h : ℕ) → is_keyed new.keys h ≡ true →
       (has_number h new.due ≡ true)
-      ⊎ ((slice_get old.keys h ≡ Some (Some h)) × (slice_get new.world h ≡ slice_get old.world h))
+      ⊎ ((is_keyed old.keys h ≡ true) × (slice_get new.world h ≡ slice_get old.world h))
 
 -- So bits that showed a handle show it, or it is due.
 pub stays-shown : (old new : Memory) → Stays old new → KeepsShown (memory_view old) (memory_view new)
@@ -100,8 +113,8 @@ pub changed-shown : (old new : Memory) (duty : Duty) (h : ℕ) (change : HandleS
 changed-shown old new duty h change was room keys world now = stays-shown old new (record {
   due = λ g is. ap (has_number g) now ∙ due-kept duty h g (ap (has_number g) was ∙ is);
   each = λ g keyed. (
-      let here : slice_get old.keys g ≡ Some (Some g) = ap (λ ks. slice_get ks g) (sym keys) ∙ keyed in
-      let within = slice_get_within old.keys g (Some g) here in
+      let here : is_keyed old.keys g ≡ true = ap (λ ks. is_keyed ks g) (sym keys) ∙ keyed in
+      let within = keyed-within old.keys g here in
       elim (same-or-not g h) [
         | inl e ↦
             inl (ap (has_number g) now ∙ subst (λ k. has_number g (with_due duty k).handles ≡ true) e
@@ -118,24 +131,28 @@ keyed-shown old new duty h key was room keys world now = (
   stays-shown old new (record {
     due = λ g is. ap (has_number g) now ∙ due-kept duty h g (ap (has_number g) was ∙ is);
     each = λ g keyed. elim (same-or-not g h) [
-      | inl e ↦ inl (subst (λ k. has_number k new.due ≡ true) (sym e) (added (subst (λ k. slice_get new.keys k ≡ Some (Some k)) e keyed)))
+      | inl e ↦ inl (subst (λ k. has_number k new.due ≡ true) (sym e) (added (subst (λ k. is_keyed new.keys k ≡ true) e keyed)))
       | inr e ↦
-          inr (sym (ap (λ ks. slice_get ks g) keys ∙ get-amended-other _ old.keys h g e) ∙ keyed, ap (λ w. slice_get w g) world)
+          inr (
+            sym (ap has_key (ap (λ ks. slice_get ks g) keys ∙ get-amended-other _ old.keys h g e)) ∙ keyed,
+            ap (λ w. slice_get w g)
+                world,
+          )
     ];
   }),
   added,
 )
   where
-    added : slice_get new.keys h ≡ Some (Some h) → has_number h new.due ≡ true
+    added : is_keyed new.keys h ≡ true → has_number h new.due ≡ true
     added keyed =
-        let within = slice_get_within new.keys h (Some h) keyed in
+        let within = keyed-within new.keys h keyed in
         ap (has_number h) now ∙ due-added duty h (omega (arith, within, room))
 
 -- A handle isn't registered any more.
-unkeyed : (keys : List (Option ℕ)) (h : ℕ) → slice_get (with_key keys h None) h ≢ Some (Some h)
-unkeyed keys h keyed = by (slice_get keys h) (sym (get-amended _ keys h) ∙ keyed)
+unkeyed : (keys : List (Option ℕ)) (h : ℕ) → is_keyed (with_key keys h None) h ≡ true → ⊥
+unkeyed keys h keyed = by (slice_get keys h) (sym (ap has_key (get-amended _ keys h)) ∙ keyed)
   where
-    by : (x : Option (Option ℕ)) → ◌≡◌ {A = Option (Option ℕ)} (option_map (λ k. None) x) (Some (Some h)) → ⊥
+    by : (x : Option (Option ℕ)) → has_key (option_map (λ k. None) x) ≡ true → ⊥
     by None is = cc
     by (Some k) is = cc
 
@@ -146,36 +163,45 @@ unkeyed-shown old new h keys world due = (
   stays-shown old new (record {
     due = λ g is. ap (has_number g) due ∙ is;
     each = λ g keyed. elim (same-or-not g h) [
-      | inl e ↦ absurd (gone (subst (λ k. slice_get new.keys k ≡ Some (Some k)) e keyed))
+      | inl e ↦ absurd (gone (subst (λ k. is_keyed new.keys k ≡ true) e keyed))
       | inr e ↦
-          inr (sym (ap (λ ks. slice_get ks g) keys ∙ get-amended-other _ old.keys h g e) ∙ keyed, ap (λ w. slice_get w g) world)
+          inr (
+            sym (ap has_key (ap (λ ks. slice_get ks g) keys ∙ get-amended-other _ old.keys h g e)) ∙ keyed,
+            ap (λ w. slice_get w g)
+                world,
+          )
     ];
   }),
   λ keyed. absurd (gone keyed),
 )
   where
-    gone : slice_get new.keys h ≡ Some (Some h) → ⊥
-    gone keyed = unkeyed old.keys h (ap (λ ks. slice_get ks h) (sym keys) ∙ keyed)
+    gone : is_keyed new.keys h ≡ true → ⊥
+    gone keyed = unkeyed old.keys h (ap (λ ks. is_keyed ks h) (sym keys) ∙ keyed)
 
 -- A key among those with one of a handle that was made, which isn't registered, is an old one.
-key-before : (made : Option ℕ) (keys : List (Option ℕ)) (h : ℕ) → slice_get (with_made_key made keys) h ≡ Some (Some h) →
-    slice_get keys h ≡ Some (Some h)
-key-before None keys h keyed = keyed
-key-before (Some n) keys h keyed = by (below-or-not h (length keys))
+pub key-before : (made : Option ℕ) (keys : List (Option ℕ)) (h key : ℕ) → slice_get (with_made_key made keys) h ≡ Some (Some key) →
+    slice_get keys h ≡ Some (Some key)
+key-before None keys h key keyed = keyed
+key-before (Some n) keys h key keyed = by (below-or-not h (length keys))
   where
-    by : (h < length keys) ⊎ (length keys ≤ h) → slice_get keys h ≡ Some (Some h)
+    by : (h < length keys) ⊎ (length keys ≤ h) → slice_get keys h ≡ Some (Some key)
     by (inl within) = sym (get-append-within keys None h within) ∙ keyed
     by (inr past) = elim (same-or-not h (length keys)) [
       | inl e ↦
-          let f : ◌≡◌ {A = Option (Option ℕ)} (Some None) (Some (Some h)) =
+          let f : ◌≡◌ {A = Option (Option ℕ)} (Some None) (Some (Some key)) =
           sym (ap (slice_get (keys ++ None ∷ [])) e ∙ get-append-end keys None) ∙ keyed in
           let g : ⊥ = cc in
           absurd g
       | inr e ↦
-          let f : ◌≡◌ {A = Option (Option ℕ)} None (Some (Some h)) = sym (get-append-past keys None h (omega (arith, past, e))) ∙ keyed in
+          let f : ◌≡◌ {A = Option (Option ℕ)} None (Some (Some key)) = sym (get-append-past keys None h (omega (arith, past, e))) ∙ keyed in
           let g : ⊥ = cc in
           absurd g
     ]
+
+-- So a handle that is registered then was so before.
+keyed-before : (made : Option ℕ) (keys : List (Option ℕ)) (h : ℕ) → is_keyed (with_made_key made keys) h ≡ true → is_keyed keys h ≡ true
+keyed-before made keys h keyed =
+    let key = keyed-key (with_made_key made keys) h keyed in ap has_key (key-before made keys h key.0 key.1)
 
 -- A call was made, and each handle that its request names is due.
 pub called-shown : (old new : Memory) (duty : Duty) (request now : Request Buffer Parts) (outcome : Outcome) (handles : List ℕ) →
@@ -185,14 +211,14 @@ pub called-shown : (old new : Memory) (duty : Duty) (request now : Request Buffe
 called-shown old new duty request now outcome handles names was room sized called keys due = stays-shown old new (record {
   due = λ g is. ap (has_number g) due ∙ each-kept duty handles g (ap (has_number g) was ∙ is);
   each = λ g keyed. (
-      let here = key-before (made_by outcome) old.keys g (ap (λ ks. slice_get ks g) (sym keys) ∙ keyed) in
-      let within = slice_get_within old.keys g (Some g) here in
+      let here = keyed-before (made_by outcome) old.keys g (ap (λ ks. is_keyed ks g) (sym keys) ∙ keyed) in
+      let within = keyed-within old.keys g here in
       by g here within (has_number g handles) refl);
 })
   where
-    by : (g : ℕ) → slice_get old.keys g ≡ Some (Some g) → g < length old.keys → (b : Bool) → has_number g handles ≡ b →
+    by : (g : ℕ) → is_keyed old.keys g ≡ true → g < length old.keys → (b : Bool) → has_number g handles ≡ b →
         (has_number g new.due ≡ true)
-        ⊎ ((slice_get old.keys g ≡ Some (Some g)) × (slice_get new.world g ≡ slice_get old.world g))
+        ⊎ ((is_keyed old.keys g ≡ true) × (slice_get new.world g ≡ slice_get old.world g))
     by g here within true is = inl (ap (has_number g) due ∙ each-added duty handles g (omega (arith, within, room)) is)
     by g here within false is =
         inr (
@@ -209,10 +235,10 @@ pub blocked-shown : (old new : Memory) (duty : Duty) (request : Request Buffer P
 blocked-shown old new duty request handles names was room world keys due = (
   stays-shown old new (record {
     due = λ g is. ap (has_number g) due ∙ each-kept duty handles g (ap (has_number g) was ∙ is);
-    each = λ g keyed. inr (ap (λ ks. slice_get ks g) (sym keys) ∙ keyed, ap (λ w. slice_get w g) world);
+    each = λ g keyed. inr (ap (λ ks. is_keyed ks g) (sym keys) ∙ keyed, ap (λ w. slice_get w g) world);
   }),
   λ g is keyed. (
-      let here : slice_get old.keys g ≡ Some (Some g) = ap (λ ks. slice_get ks g) (sym keys) ∙ keyed in
-      let within = slice_get_within old.keys g (Some g) here in
+      let here : is_keyed old.keys g ≡ true = ap (λ ks. is_keyed ks g) (sym keys) ∙ keyed in
+      let within = keyed-within old.keys g here in
       ap (has_number g) due ∙ each-added duty handles g (omega (arith, within, room)) (ap (has_number g) names ∙ is)),
 )

@@ -28,11 +28,13 @@ use Rattle.ready_driver.specs.HandlesStand.{HandlesStand}
 use Rattle.ready_driver.specs.Legacy.{Legacy, idle, is_on}
 use Rattle.ready_driver.specs.LegacyStep.{new_op}
 use Rattle.ready_driver.specs.Polling.{joined_at}
-use Rattle.ready_driver.specs.Registry.{is_known, is_users, keyed_unless, keyed_each}
-use Rattle.ready_driver.specs.Records.{Kept, is_registered, changed, with_registered}
-use Rattle.ready_driver.specs.Reports.{with_key}
+use Rattle.ready_driver.specs.Registry.{is_known, is_users, keyed_by, keyed_each}
+use Rattle.ready_driver.specs.declared.records.Record.{Record}
+use Rattle.ready_driver.specs.Records.{Kept, record_at, changed, with_registered}
+use Rattle.ready_driver.specs.Reports.{has_key, is_keyed, with_key}
 use Rattle.driver_core.proofs.Holds.{held-user}
 use Rattle.ready_driver.proofs.Registering.{keys-kept}
+use Rattle.ready_driver.proofs.Shown.{keyed-key}
 
 -- What was looked up in a table: the user holds it.
 abbrev users_in : Option Holders → Bool
@@ -93,7 +95,7 @@ module _ (table : Table) (keys : List (Option ℕ)) (D : Legacy) (st : HandlesSt
           let there = st.keyed (length D.world) is in
           let size = st.sized in
           let none = slice_get_past keys (length D.world) (omega (arith, size)) in
-          let f : ◌≡◌ {A = Option (Option ℕ)} None (Some (Some (length D.world))) = sym none ∙ there in
+          let f : ◌≡◌ {A = Bool} false true = sym (ap has_key none) ∙ there in
           let g : ⊥ = cc in absurd g
       by false is = refl
 
@@ -104,9 +106,9 @@ module _ (table : Table) (keys : List (Option ℕ)) (D : Legacy) (st : HandlesSt
       ∙ ap (λ o. (unwrap_or o nobody).operations) (none-of (get table.holders (length D.world)) fresh-unknown)
 
   -- A new handle of the world, which the user got, and which is registered.
-  module _ (new : Table) (now : List (Option ℕ)) (world : List HandleState)
+  module _ (new : Table) (now : List (Option ℕ)) (world : List HandleState) (key : ℕ)
       (held : new.holders ≡ insert table.holders (length D.world) by_user)
-      (keyed : now ≡ with_key (keys ++ None ∷ []) (length D.world) (Some (length D.world)))
+      (keyed : now ≡ with_key (keys ++ None ∷ []) (length D.world) (Some key))
       (longer : length world ≡ length D.world + 1) where
     got : get new.holders (length D.world) ≡ Some by_user
     got = ap (λ m. get m (length D.world)) held ∙ put-same table.holders (length D.world) by_user
@@ -133,15 +135,15 @@ module _ (table : Table) (keys : List (Option ℕ)) (D : Legacy) (st : HandlesSt
     end : slice_get (keys ++ None ∷ []) (length D.world) ≡ Some None
     end = ap (slice_get (keys ++ None ∷ [])) (sym st.sized) ∙ get-append-end keys None
 
-    keyed-given : (h : ℕ) → is_known new h ≡ true → slice_get now h ≡ Some (Some h)
+    keyed-given : (h : ℕ) → is_known new h ≡ true → is_keyed now h ≡ true
     keyed-given h known = elim (same-or-not h (length D.world)) [
-      | inl e ↦ (
-          ap (λ ks. slice_get ks h) keyed ∙ ap (slice_get (with_key (keys ++ None ∷ []) (length D.world) (Some (length D.world)))) e
-          ∙ get-amended-same (λ old. Some (length D.world)) (keys ++ None ∷ []) (length D.world) None end
-          ∙ ap (λ k. Some (Some k)) (sym e))
-      | inr e ↦ (
-          ap (λ ks. slice_get ks h) keyed ∙ get-amended-other (λ old. Some (length D.world)) (keys ++ None ∷ []) (length D.world) h e
-          ∙ within (λ s. e (s ∙ st.sized)) ∙ st.keyed h (sym (ap is_some (beside h e)) ∙ known))
+      | inl e ↦
+          ap has_key (ap (λ ks. slice_get ks h) keyed ∙ ap (slice_get (with_key (keys ++ None ∷ []) (length D.world) (Some key))) e
+          ∙ get-amended-same (λ old. Some key) (keys ++ None ∷ []) (length D.world) None end)
+      | inr e ↦
+          ap has_key (ap (λ ks. slice_get ks h) keyed
+          ∙ get-amended-other (λ old. Some key) (keys ++ None ∷ []) (length D.world) h e
+          ∙ within (λ s. e (s ∙ st.sized))) ∙ st.keyed h (sym (ap is_some (beside h e)) ∙ known)
     ]
       where
         within : h ≢ length keys → slice_get (keys ++ None ∷ []) h ≡ slice_get keys h
@@ -157,7 +159,7 @@ module _ (table : Table) (keys : List (Option ℕ)) (D : Legacy) (st : HandlesSt
       keyed = keyed-given;
       counted = (let a = length-append D.users (true ∷ []) in let b = st.counted in omega (arith, a, b, longer));
       sized = (
-          let a = ap length keyed ∙ length-amended (λ old. Some (length D.world)) (keys ++ None ∷ []) (length D.world) in
+          let a = ap length keyed ∙ length-amended (λ old. Some key) (keys ++ None ∷ []) (length D.world) in
           let b = length-append keys (None ∷ []) in let c = st.sized in omega (arith, a, b, c, longer));
     }
 
@@ -200,21 +202,30 @@ module _ (table : Table) (keys : List (Option ℕ)) (D : Legacy) (st : HandlesSt
     sized = st.sized;
   }
 
-  -- Handles that are known are registered again: nothing changes.
-  pub standing-keyed : (h : ℕ) (is : Bool) → is_known table h ≡ true → HandlesStand table (keyed_unless is keys h) D
-  standing-keyed h true known = st
-  standing-keyed h false known = record {
+  -- A handle that is registered, with whatever key, is registered again.
+  pub standing-keyed : (h : ℕ) (key : ℕ) → is_known table h ≡ true → HandlesStand table (with_key keys h (Some key)) D
+  standing-keyed h key known = record {
     users = st.users;
     operations = st.operations;
     keyed = λ k there. elim (same-or-not k h) [
-      | inl e ↦ (
-          ap (slice_get (with_key keys h (Some h))) e
-          ∙ get-amended-same (λ old. Some h) keys h (Some h) (st.keyed h known) ∙ ap (λ q. Some (Some q)) (sym e))
-      | inr e ↦ get-amended-other (λ old. Some h) keys h k e ∙ st.keyed k there
+      | inl e ↦
+          let had = keyed-key keys h (st.keyed h known) in
+          ap has_key (ap (slice_get (with_key keys h (Some key))) e
+          ∙ get-amended-same (λ old. Some key) keys h (Some had.0) had.1)
+      | inr e ↦ ap has_key (get-amended-other (λ old. Some key) keys h k e) ∙ st.keyed k there
     ];
     counted = st.counted;
-    sized = length-amended (λ old. Some h) keys h ∙ st.sized;
+    sized = length-amended (λ old. Some key) keys h ∙ st.sized;
   }
+
+  -- The same by its record, if it has one and that isn't registered.
+  pub standing-by : (h : ℕ) (one : Option Record) → is_known table h ≡ true → HandlesStand table (keyed_by one keys h) D
+  standing-by h None known = st
+  standing-by h (Some one) known = by one.registered
+    where
+      by : (b : Bool) → HandlesStand table (if◌then◌else◌ {A = List (Option ℕ)} b keys (with_key keys h (Some one.key))) D
+      by true = st
+      by false = standing-keyed h one.key known
 
 -- The same of several handles, one after another.
 pub standing-ready : (table : Table) (D : Legacy) (handles : List ℕ) (records : Kept) (keys : List (Option ℕ)) →
@@ -222,6 +233,6 @@ pub standing-ready : (table : Table) (D : Legacy) (handles : List ℕ) (records 
     HandlesStand table (keyed_each records keys handles) D
 standing-ready table D [] records keys st known = st
 standing-ready table D (h ∷ handles) records keys st known =
-    standing-ready table D handles (changed records h (with_registered true)) (keyed_unless (is_registered records h) keys h)
-    (standing-keyed table keys D st h (is_registered records h) (known h (has-first h handles)))
+    standing-ready table D handles (changed records h (with_registered true)) (keyed_by (record_at records h) keys h)
+    (standing-by table keys D st h (record_at records h) (known h (has-first h handles)))
     (λ k there. known k (has-later k h handles there))

@@ -1,11 +1,17 @@
 -- Calls of an object one after another that move nothing: what they leave together.
-use Rattle.std.proofs.Common.{◌≡◌, ◌∙◌, ℕ, Bool, true, List, [], ◌∷◌, Option, refl, sym, ap, subst, arith}
+use Rattle.std.proofs.Common.{◌≡◌, ◌∙◌, ℕ, Bool, true, false, List, [], ◌∷◌, Option, Some, None, refl, sym, ap, subst, arith}
 use Rattle.ready_driver.specs.declared.non_block.NonBlockError.{NonBlockError}
 use Rattle.ready_driver.specs.declared.non_block.NonBlockError.TheVariants.{Fault, OutOfMemory}
 use Rattle.ready_driver.specs.Io.{IoView, IsLater, IsStill, FaultsFor}
-use Rattle.ready_driver.specs.Records.{is_registered}
-use Rattle.ready_driver.specs.Registry.{Handling, keyed_unless, keyed_each, MakesReady, Refuses, RefusesReady}
-use Rattle.ready_driver.proofs.Registering.{registered-again}
+use Rattle.std.specs.Prelude.{if◌then◌else◌, unwrap_or, option_map}
+use Rattle.ready_driver.specs.declared.records.Record.{Record}
+use Rattle.ready_driver.specs.Records.{Kept, AreNamed, is_registered, record_at, unregistered_at}
+use Rattle.ready_driver.specs.Records.{unregistered_in, changed_in, changed_named}
+use Rattle.ready_driver.specs.Records.{with_registered}
+use Rattle.ready_driver.specs.Registry.{Handling, keyed_by, keyed_each, MakesReady, Refuses, RefusesReady}
+use Rattle.ready_driver.specs.Reports.{with_key}
+use Rattle.ready_driver.proofs.Recorded.{changed-none}
+use Rattle.ready_driver.proofs.Registering.{registered-again, unregistered-record}
 
 -- The counts are what they were.
 pub later-same : (v : IoView) → IsLater v v
@@ -49,15 +55,56 @@ module _ (tells memory : Bool) where
   fault-behind a b c OutOfMemory x y = y ∙ x
 
 module _ {I : Type 0} (view : I → IoView) (tells memory : Bool) where
-  -- A handle that is registered already.
-  pub ready-already : (all : Handling I) (h : ℕ) → is_registered all.records h ≡ true → MakesReady view tells memory all (h ∷ []) all
-  ready-already all h is = record {
-    table = refl;
-    records = sym (registered-again all.records h is);
-    object = subst (λ b. IsStill tells memory (view all.io) (view all.io) (keyed_unless b (view all.io).keys h) (view all.io).closes)
-        (sym is)
-        (still-same tells memory (view all.io));
-  }
+  -- A handle that is registered already, or has no record.
+  pub ready-already : (all : Handling I) (h : ℕ) → unregistered_at all.records h ≡ None → MakesReady view tells memory all (h ∷ []) all
+  ready-already all h is = by (record_at all.records h) refl is
+    where
+      by : (x : Option Record) → record_at all.records h ≡ x → unregistered_in x ≡ None → MakesReady view tells memory all (h ∷ []) all
+      by None there is = record {
+        table = refl;
+        records = sym (changed-none all.records h (with_registered true) there);
+        object = subst (λ x. IsStill tells memory (view all.io) (view all.io) (keyed_by x (view all.io).keys h) (view all.io).closes)
+            (sym there) (still-same tells memory (view all.io));
+      }
+      by (Some one) there is = here one.registered refl is
+        where
+          here : (b : Bool) → one.registered ≡ b → if◌then◌else◌ {A = Option ℕ} b None (Some one.key) ≡ None →
+              MakesReady view tells memory all (h ∷ []) all
+          here false not is = (let f : ⊥ = cc in absurd f)
+          here true has is = record {
+            table = refl;
+            records = sym (registered-again all.records h
+                (ap (λ x. unwrap_or (option_map (λ r. r.registered) x) false) there ∙ has));
+            object = subst (λ x. IsStill tells memory (view all.io) (view all.io) (keyed_by x (view all.io).keys h) (view all.io).closes)
+                (sym there)
+                (subst (λ b. IsStill tells memory (view all.io) (view all.io)
+                (if◌then◌else◌ {A = List (Option ℕ)} b (view all.io).keys (with_key (view all.io).keys h (Some one.key))) (view
+                all.io).closes)
+                (sym has) (still-same tells memory (view all.io)));
+          }
+
+  -- A handle is registered with the key of its record.
+  pub ready-now : (all : Handling I) (io : I) (h key : ℕ) → unregistered_at all.records h ≡ Some key → AreNamed all.records →
+      IsStill tells memory (view all.io) (view io) (with_key (view all.io).keys h (Some key)) (view all.io).closes →
+      MakesReady view tells memory all (h ∷ [])
+      (record all { io = io; records = changed_named all.records key (with_registered true) })
+  ready-now all io h key is named still =
+      let one = unregistered-record all.records h key is in
+      record {
+        table = refl;
+        records = ap (λ x. changed_in all.records x (with_registered true))
+            ((named h key).1 (ap (option_map (λ (r : Record). r.key)) one.1 ∙ ap Some one.3));
+        object = subst (λ ks. IsStill tells memory (view all.io) (view io) ks (view all.io).closes)
+            (sym (ap (λ x. keyed_by x (view all.io).keys h) one.1
+            ∙ ap (λ b. if◌then◌else◌ {A = List (Option ℕ)} b (view all.io).keys (with_key (view all.io).keys h (Some one.0.key))) one.2
+            ∙ ap (λ k. with_key (view all.io).keys h (Some k)) one.3)) still;
+      }
+
+  -- One whose record isn't registered isn't.
+  pub unready : (records : Kept) (h key : ℕ) → unregistered_at records h ≡ Some key → is_registered records h ≡ false
+  unready records h key is =
+      let one = unregistered-record records h key is in
+      ap (λ x. unwrap_or (option_map (λ r. r.registered) x) false) one.1 ∙ one.2
 
   -- The first handle is refused.
   pub refused-first : (old : Handling I) (h : ℕ) (rest : List ℕ) (new : Handling I) (why : NonBlockError) →

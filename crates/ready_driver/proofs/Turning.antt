@@ -99,6 +99,6 @@ treats-all {I} view tells reporting memory world_tells world_reports old mid bet
           shown-reported new.handling.table new.handling.records (view new.handling.io)
           (ap (λ io. (view io).due) after.io ∙ waited.none is) held
           (after.shown is (shown-came view tells reporting memory world_tells world_reports mid between waited is
-          (before.shown is (shown is))))
+          (before.shown is (shown is)))).shown
           );
     }

@@ -15,6 +15,7 @@ pub record IsOpened {I : Type 0} (view : I → IoView) (tells memory : Bool) (ki
   pub fresh : is_old old.table h ≡ false
   pub holders : mid.table.holders ≡ old.table.holders
   pub handles : mid.records.handles ≡ old.records.handles
+  pub names : mid.records.names ≡ old.records.names
   pub made : IsGiven tells memory kind (view old.io) (view mid.io) h
   pub user : GivesUser view tells memory mid h new
 
@@ -23,6 +24,7 @@ pub record IsOpened {I : Type 0} (view : I → IoView) (tells memory : Bool) (ki
 pub record IsUnopened {I : Type 0} (view : I → IoView) (tells memory : Bool) (old new : Handling I) (why : NonBlockError) : Type 0 where
   pub holders : new.table.holders ≡ old.table.holders
   pub handles : new.records.handles ≡ old.records.handles
+  pub names : new.records.names ≡ old.records.names
   pub object : IsStill tells memory (view old.io) (view new.io) (view old.io).keys (view old.io).closes
   pub cause : FaultsFor memory (view old.io) (view new.io) why ⊎ ((why ≡ Fault INVALID) × (is_old old.table (view old.io).made ≡ true))
 

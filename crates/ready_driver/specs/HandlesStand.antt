@@ -7,7 +7,7 @@ use Rattle.ready_driver.specs.Legacy.{Legacy, holds_at, is_on}
 use Rattle.ready_driver.specs.Registry.{is_users, AreKeyed}
 
 -- The user holds each handle in the table exactly where it does in the driver; as many operations hold it as there name it; each handle
--- that somebody holds is registered with its own number; and the user may hold as many handles as the world has.
+-- that somebody holds is registered; and the user may hold as many handles as the world has.
 pub record HandlesStand (table : Table) (keys : List (Option ℕ)) (D : Legacy) : Type 0 where
   pub users : (h : ℕ) → is_users table h ≡ holds_at D h
   pub operations : (h : ℕ) → (holders_at table h).operations ≡ length (numbers_where (is_on h) 0 D.slots)

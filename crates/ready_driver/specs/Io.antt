@@ -1,6 +1,6 @@
 -- An object whose calls don't wait, as its callers see it, and what its calls do. Cited by `NonBlock`.
-use Rattle.std.specs.Prelude.{ℕ, suc, ◌≡◌, ◌≤◌, ◌+◌, ◌-◌, ◌^◌, ◌⊎◌, Bool, true, IsTrue, List, [], ◌∷◌, length, min, Option, None, Some}
-use Rattle.std.specs.Prelude.{slice_get, Result, Ok, Err}
+use Rattle.std.specs.Prelude.{ℕ, suc, ◌≡◌, ◌≤◌, ◌+◌, ◌-◌, ◌^◌, ◌⊎◌, Bool, true, IsTrue, List, [], ◌∷◌, length, min, Option, None}
+use Rattle.std.specs.Prelude.{Result, Ok, Err}
 use Rattle.rent_buf.specs.Buffer.{Buffer}
 use Rattle.rent_buf.specs.Parts.{Parts}
 use Rattle.rent_buf.specs.Counts.{Rose}
@@ -25,7 +25,7 @@ use Rattle.driver_core.specs.declared.operations.calls.CallAnswer.TheVariants.{D
 use Rattle.ready_driver.specs.declared.non_block.Report.{Report}
 use Rattle.ready_driver.specs.declared.non_block.NonBlockError.{NonBlockError}
 use Rattle.ready_driver.specs.declared.non_block.NonBlockError.TheVariants.{Fault, OutOfMemory as NoMemory}
-use Rattle.ready_driver.specs.Reports.{with_key, with_made_key, ShowsBits}
+use Rattle.ready_driver.specs.Reports.{is_keyed, with_key, with_made_key, ShowsBits}
 
 -- An object: how often a call of it failed as a whole, would have blocked, and ended with an error; the number of its last call that
 -- failed as a whole; how often it waited, but for waits that ended with an error, and how often it was asked to close a handle; how many
@@ -46,13 +46,13 @@ pub record IoView : Type 0 where
   pub reports : List Report
   pub limit : Option ℕ
 
--- A handle is due, if it is registered with its own number.
+-- A handle is due, if it is registered.
 abbrev pub IsDue : IoView → ℕ → Type 0
-IsDue io h = slice_get io.keys h ≡ Some (Some h) → has_number h io.due ≡ true
+IsDue io h = is_keyed io.keys h ≡ true → has_number h io.due ≡ true
 
--- A handle is due, or these bits show it, if it is registered with its own number.
+-- A handle is due, or these bits show it, if it is registered.
 abbrev pub IsShown : IoView → ℕ → ℕ → Type 0
-IsShown io h ready = slice_get io.keys h ≡ Some (Some h) → (has_number h io.due ≡ true) ⊎ ShowsBits (is_readable_at io.world h) ready
+IsShown io h ready = is_keyed io.keys h ≡ true → (has_number h io.due ≡ true) ⊎ ShowsBits (is_readable_at io.world h) ready
 
 -- Bits that showed a handle show it still, or the handle is due.
 abbrev pub KeepsShown : IoView → IoView → Type 0
@@ -202,9 +202,9 @@ RegistersFor tells memory h key old new (Ok done) =
 RegistersFor tells memory h key old new (Err why) =
     IsStill tells memory old new old.keys old.closes × FaultsFor memory old new why × (IsTrue memory → ⊥)
 
--- What closing a handle answers and leaves: it counts as one close. A world in memory answers the count 0.
-pub record IsClosed (tells memory : Bool) (old new : IoView) (outcome : Outcome) : Type 0 where
-  pub still : IsStill tells memory old new old.keys (one_more old.closes)
+-- What closing a handle answers and leaves: it counts as one close, and the handle isn't registered. A world in memory answers the count 0.
+pub record IsClosed (tells memory : Bool) (h : ℕ) (old new : IoView) (outcome : Outcome) : Type 0 where
+  pub still : IsStill tells memory old new (with_key old.keys h None) (one_more old.closes)
   pub outcome_is : IsTrue memory → outcome ≡ Count 0
 
 -- What a wait with a limit answers and leaves. An object that shows its reports puts just these into the list; after an error there is

@@ -1,6 +1,6 @@
 -- The handles of a readiness driver as contracts see them: the object that makes its calls, who holds each handle, and what is kept of it.
 -- Cited by `Registry`.
-use Rattle.std.specs.Prelude.{ℕ, ◌≡◌, ◌<◌, ◌&&◌, ◌||◌, nat_lt, nat_le, Bool, true, false, is_some, IsTrue}
+use Rattle.std.specs.Prelude.{ℕ, ◌≡◌, ◌<◌, ◌&&◌, ◌||◌, if◌then◌else◌, nat_lt, nat_le, Bool, true, false, is_some, IsTrue}
 use Rattle.std.specs.Prelude.{List, [], ◌∷◌, ◌++◌, Option, Some, None, slice_get, refl}
 use Rattle.std.specs.FinMap as map
 use Rattle.std.specs.Coded.{Coded, code_by, coded×}
@@ -12,8 +12,9 @@ use Rattle.ready_driver.specs.declared.non_block.NonBlockError.{NonBlockError}
 use Rattle.ready_driver.specs.declared.records.Record.{Record}
 use Rattle.ready_driver.specs.Io.{IoView, IsStill, IsDue, FaultsFor, closes_after}
 use Rattle.ready_driver.specs.MemIo.{Memory}
-use Rattle.ready_driver.specs.Records.{Kept, kept_code, fresh_record, record_at, is_registered, changed, without_record, with_registered}
-use Rattle.ready_driver.specs.Reports.{with_key}
+use Rattle.ready_driver.specs.Records.{Kept, kept_code, fresh_record, record_at, key_at, named_at, is_registered, changed, without_record}
+use Rattle.ready_driver.specs.Records.{with_registered}
+use Rattle.ready_driver.specs.Reports.{is_keyed, with_key}
 
 -- The object, who holds each handle, and the record of each.
 pub record Handling (I : Type 0) : Type 0 where
@@ -47,9 +48,17 @@ is_old table h = is_known table h || nat_le MOST_HANDLES h
 abbrev pub AreRecorded : Table → Kept → Type 0
 AreRecorded table records = (h : ℕ) → is_some (record_at records h) ≡ is_known table h
 
--- Each handle that somebody holds is registered with its own number.
+-- Each handle that somebody holds is registered.
 abbrev pub AreKeyed : Table → List (Option ℕ) → Type 0
-AreKeyed table keys = (h : ℕ) → is_known table h ≡ true → slice_get keys h ≡ Some (Some h)
+AreKeyed table keys = (h : ℕ) → is_known table h ≡ true → is_keyed keys h ≡ true
+
+-- A handle that is registered is so with the key of its record.
+abbrev pub OwnsKey : Kept → List (Option ℕ) → ℕ → Type 0
+OwnsKey records keys h = (key : ℕ) → slice_get keys h ≡ Some (Some key) → key_at records h ≡ Some key
+
+-- So it is of each handle that somebody holds.
+abbrev pub AreOwned : Table → Kept → List (Option ℕ) → Type 0
+AreOwned table records keys = (h : ℕ) → is_known table h ≡ true → OwnsKey records keys h
 
 -- There is memory for a handle that a call makes, and for its record.
 pub record HasMadeRoom {I : Type 0} (all : Handling I) : Type 0 where
@@ -61,20 +70,25 @@ pub record IsSameButRoom {I : Type 0} (old new : Handling I) : Type 0 where
   pub io : new.io ≡ old.io
   pub table : new.table.holders ≡ old.table.holders
   pub records : new.records.handles ≡ old.records.handles
+  pub names : new.records.names ≡ old.records.names
 
--- What trying to register a handle left, by whether the object took it. A world in memory takes each, and the handle is due then.
-abbrev pub TriesFor : Bool → Bool → ℕ → IoView → IoView → Bool → Type 0
-TriesFor tells memory h old new true =
-    IsStill tells memory old new (with_key old.keys h (Some h)) old.closes × (IsTrue memory → IsDue new h)
-TriesFor tells memory h old new false = IsStill tells memory old new old.keys old.closes × (IsTrue memory → ⊥)
+-- What trying to register a handle with a key left, by whether the object took it. A world in memory takes each, and the handle is due
+-- then.
+abbrev pub TriesFor : Bool → Bool → ℕ → ℕ → IoView → IoView → Bool → Type 0
+TriesFor tells memory h key old new true =
+    IsStill tells memory old new (with_key old.keys h (Some key)) old.closes × (IsTrue memory → IsDue new h)
+TriesFor tells memory h key old new false = IsStill tells memory old new old.keys old.closes × (IsTrue memory → ⊥)
 
--- The user holds one handle more, once. Its record has no bits, nothing waits for it, and it is registered where the object took it. All
--- other handles stay.
+-- The user holds one handle more, once. Its record has a key that no other has, and no bits, nothing waits for it, and it is registered
+-- where the object took it. All other handles stay.
 pub record GivesUser {I : Type 0} (view : I → IoView) (tells memory : Bool) (old : Handling I) (h : ℕ) (new : Handling I) : Type 0 where
+  pub key : ℕ
+  pub fresh : named_at old.records key ≡ None
   pub taken : Bool
-  pub tries : TriesFor tells memory h (view old.io) (view new.io) taken
+  pub tries : TriesFor tells memory h key (view old.io) (view new.io) taken
   pub table : new.table.holders ≡ map.insert old.table.holders h by_user
-  pub records : new.records.handles ≡ map.insert old.records.handles h (with_registered taken fresh_record)
+  pub records : new.records.handles ≡ map.insert old.records.handles h (with_registered taken (fresh_record key))
+  pub names : new.records.names ≡ map.insert old.records.names key h
 
 -- Each of these handles is registered.
 abbrev pub are_registered : Kept → List ℕ → Bool
@@ -86,16 +100,16 @@ abbrev pub registered_each : Kept → List ℕ → Kept
 registered_each records [] = records
 registered_each records (h ∷ handles) = registered_each (changed records h (with_registered true)) handles
 
--- The keys of handles, once a handle is registered, where it wasn't.
-abbrev pub keyed_unless : Bool → List (Option ℕ) → ℕ → List (Option ℕ)
-keyed_unless true keys h = keys
-keyed_unless false keys h = with_key keys h (Some h)
+-- The keys of handles, once a handle with the record that was looked up is registered, if it has one and wasn't.
+abbrev pub keyed_by : Option Record → List (Option ℕ) → ℕ → List (Option ℕ)
+keyed_by None keys h = keys
+keyed_by (Some one) keys h = if one.registered then keys else with_key keys h (Some one.key)
 
--- The keys of handles, once each of these is registered that isn't yet.
+-- The keys of handles, once each of these is registered that has a record and isn't yet.
 abbrev pub keyed_each : Kept → List (Option ℕ) → List ℕ → List (Option ℕ)
 keyed_each records keys [] = keys
 keyed_each records keys (h ∷ handles) =
-    keyed_each (changed records h (with_registered true)) (keyed_unless (is_registered records h) keys h) handles
+    keyed_each (changed records h (with_registered true)) (keyed_by (record_at records h) keys h) handles
 
 -- Each of these handles is registered, and all else stays.
 pub record MakesReady {I : Type 0} (view : I → IoView) (tells memory : Bool) (old : Handling I) (handles : List ℕ) (new : Handling I) :

@@ -18,6 +18,15 @@ abbrev pub with_made_key : Option ℕ → List (Option ℕ) → List (Option ℕ
 with_made_key None keys = keys
 with_made_key (Some h) keys = keys ++ None ∷ []
 
+-- The key that was looked up is there: a handle is registered with it.
+abbrev pub has_key : Option (Option ℕ) → Bool
+has_key (Some (Some key)) = true
+has_key _ = false
+
+-- A handle is registered, by the keys of handles.
+abbrev pub is_keyed : List (Option ℕ) → ℕ → Bool
+is_keyed keys h = has_key (slice_get keys h)
+
 -- The bits of a handle: it is always writable, and readable or not.
 abbrev pub bits_of : Bool → ℕ
 bits_of true = bit_or READABLE WRITABLE

@@ -30,12 +30,13 @@ ghost use Rattle.ready_driver.specs.Named.{IsOnlyCanceled, PollsSlotFor, cancele
 ghost use Rattle.ready_driver.specs.Others.{KeepsOthers};
 ghost use Rattle.ready_driver.specs.Polling.{OpsStand, asked_at};
 ghost use Rattle.ready_driver.specs.Turns.{AreReported};
-ghost use Rattle.ready_driver.specs.Registry.{AreRecorded, HasMadeRoom, IsSameButRoom, LetsGo, MakesReady, is_known};
+ghost use Rattle.ready_driver.specs.Registry.{AreOwned, AreRecorded, HasMadeRoom, IsSameButRoom, LetsGo, MakesReady, is_known};
+ghost use Rattle.ready_driver.specs.Records.{AreNamed};
 
 use crate::non_block::{NonBlock, NonBlockError, Reports};
 use crate::polling;
 use crate::registry::Registry;
-use crate::waits::awaited;
+use crate::waits::{awaited, look_at};
 use driver_core::{
     CancelHandle, Done, MOST_GIVEN, Members, Op, Operations, PollOp, SubmitError, SubmitFault,
     Submitted,
@@ -168,6 +169,10 @@ impl<I: NonBlock, B: IoBufMut + Drop> LegacyDriver<I, B> {
         ensures canceled { (key : ℕ) → IsOnlyCanceled (map.get self.now.slots.values key) }
         // Just the handles that somebody holds have records, and somebody holds each handle that an operation names.
         ensures recorded { AreRecorded self.now.handling.table self.now.handling.records }
+        // A handle is that of a key exactly if its record has the key; over a world in memory each is registered with that key, if it is.
+        ensures named { AreNamed self.now.handling.records }
+        ensures owned { IsTrue I.memory →
+            AreOwned self.now.handling.table self.now.handling.records (I.view self.now.handling.io).keys }
         ensures held { (key h : ℕ) → has_number h (named_in (map.get self.now.slots.values key)) ≡ true →
             is_known self.now.handling.table h ≡ true }
     {
@@ -266,17 +271,17 @@ impl<I: NonBlock, B: IoBufMut + Drop> LegacyDriver<I, B> {
     {
         let key = op.key();
         let number = op.number();
-        let names = self.ops.names_at(key);
+        let look = look_at(self.ops.peek(key));
         self.registry.recorded();
-        match reserve(&mut self.registry, self.ops.is_maker(key)) {
+        match reserve(&mut self.registry, look.maker) {
             Ok(()) => {}
             Err(why) => return Err((why, op)),
         }
-        match self.registry.poll_op(&mut self.ops, op, task) {
+        match self.registry.poll_op(&mut self.ops, op, task, look.awaited) {
             Ok(PollOp::Pending(op)) => Ok(PollOp::Pending(op)),
             Ok(PollOp::Ready(done)) => {
                 let done = hand_over(&mut self.registry, done);
-                self.registry.let_go(names);
+                self.registry.let_go(look.names);
                 self.registry.recorded();
                 self.members.leave(number);
                 self.lively = self.lively | park::moves(done.outcome);

@@ -337,6 +337,7 @@ impl NonBlock for MemIo {
     /// The count 0: nothing moves.
     fn close(&mut self, h: u64) -> Outcome {
         self.closes = one_more(self.closes);
+        set_key(&mut self.keys, h as usize, None);
         Outcome::Count(0)
     }
 

@@ -148,9 +148,10 @@ pub trait NonBlock: Calls + Drop {
     fn deregister(&mut self, h: u64) -> Result<(), NonBlockError>
         ensures { RegistersFor tells memory h None (view self.old) (view self.new) result };
 
-    /// Closes a handle, and answers how that ended. (libc: `close`)
+    /// Closes a handle, which isn't registered any more, and answers how that ended. (libc: `close`, which takes a descriptor out of each
+    /// poll)
     fn close(&mut self, h: u64) -> Outcome
-        ensures { IsClosed tells memory (view self.old) (view self.new) result };
+        ensures { IsClosed tells memory h (view self.old) (view self.new) result };
 
     /// A handle is a file: its calls wait for nothing that is reported. (not in monoio)
     fn is_file(&self, h: u64) -> bool

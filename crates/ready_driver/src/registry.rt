@@ -4,7 +4,7 @@ ghost use Rattle.std.specs.FinMap as map;
 ghost use Rattle.handle_core.specs.Table.{IsHeld, holders_at, with_holders, with_user, with_operation};
 ghost use Rattle.machine.specs.Request.{listed};
 ghost use Rattle.driver_core.specs.Holds.{CanJoin, with_ops};
-ghost use Rattle.ready_driver.specs.Records.{io_at, is_registered};
+ghost use Rattle.ready_driver.specs.Records.{AreNamed, io_at, is_registered};
 ghost use Rattle.ready_driver.specs.Registry.{is_known, is_users, holds_each, is_old, AreRecorded, HasMadeRoom, IsSameButRoom, GivesUser};
 ghost use Rattle.ready_driver.specs.Registry.{are_registered, MakesReady, Refuses, RefusesReady};
 
@@ -51,7 +51,7 @@ impl<I: NonBlock> Registry<I> {
         ensures { result ≡ record {
           io = io;
           table = record { holders = map.empty; spare = 0 };
-          records = record { handles = map.empty; spare = 0 };
+          records = record { handles = map.empty; names = map.empty; spare = 0 };
         } }
     {
         Registry {
@@ -114,11 +114,13 @@ impl<I: NonBlock> Registry<I> {
         self.records.holders(h).is_some()
     }
 
-    /// Just the handles that somebody holds have records. It does nothing: it is for proofs. (not in monoio)
+    /// Just the handles that somebody holds have records, and a handle is that of a key exactly if its record has the key. It does nothing:
+    /// it is for proofs. (not in monoio)
     pub fn recorded(&self)
-        ensures { AreRecorded self.now.table self.now.records }
+        ensures recorded { AreRecorded self.now.table self.now.records }
+        ensures named { AreNamed self.now.records }
     {
-        let _records = &self.records;
+        self.records.named();
     }
 
     /// A handle that a call names as made can't be new: somebody holds it, or it is no handle's number. (not in monoio)
@@ -152,7 +154,7 @@ impl<I: NonBlock> Registry<I> {
     }
 
     /// The user holds a handle that nobody held. The memory for it and for its record is taken first; if that runs out, nothing but
-    /// reserved memory has changed. Then the handle is registered with its number as the key; one that the object refuses stays
+    /// reserved memory has changed. Then the handle is registered with the key of its record; one that the object refuses stays
     /// unregistered, and is tried again by `make_ready`. (monoio: `SharedFd::new`)
     pub fn adopt(&mut self, h: u64) -> Result<SharedFd, OutOfMemory>
         requires fresh { is_known self.old.table h ≡ false }
@@ -187,9 +189,10 @@ impl<I: NonBlock> Registry<I> {
         requires room { HasMadeRoom self.old }
         ensures { GivesUser I.view I.tells I.memory self.old h self.new }
     {
-        match self.io.register(h, h as usize) {
-            Ok(()) => self.records.add_reserved(h, true),
-            Err(_) => self.records.add_reserved(h, false),
+        let key = self.records.add_reserved(h);
+        match self.io.register(h, key) {
+            Ok(()) => self.records.set_registered(key),
+            Err(_) => {}
         }
     }
 
@@ -220,12 +223,13 @@ impl<I: NonBlock> Registry<I> {
         ensures same { is_registered self.old.records h ≡ true → IsOk result × (self.new ≡ self.old) }
         ensures err { IfErr result (λ why. Refuses I.view I.tells I.memory self.old h self.new why) }
     {
-        if self.records.registered(h) {
+        self.records.named();
+        let Some(key) = self.records.unregistered(h) else {
             return Ok(());
-        }
-        match self.io.register(h, h as usize) {
+        };
+        match self.io.register(h, key) {
             Ok(()) => {
-                self.records.set_registered(h);
+                self.records.set_registered(key);
                 Ok(())
             }
             Err(why) => Err(why),

@@ -1,7 +1,8 @@
 //! The poll of an operation that makes its call only once a report meets its direction.
 ghost use Rattle.std.specs.Prelude.{◌≡◌, None, IsTrue, option_copied};
 ghost use Rattle.std.specs.FinMap as map;
-ghost use Rattle.driver_core.specs.Holds.{made_in};
+ghost use Rattle.driver_core.specs.Holds.{is_maker, made_in, named_in};
+ghost use Rattle.machine.specs.Request.{listed};
 ghost use Rattle.driver_core.specs.Op.{Holds, number_of, key_of};
 ghost use Rattle.ready_driver.specs.Legacy.{Legacy};
 ghost use Rattle.ready_driver.specs.Calling.{CallsOnce};
@@ -17,8 +18,8 @@ use crate::non_block::NonBlock;
 use crate::polling;
 use crate::ready::Direction;
 use crate::records::Records;
-use driver_core::{Op, Operations, PollOp, Slot};
-use machine::Request;
+use driver_core::{Op, Operations, PollOp, Slot, is_maker, names_in};
+use machine::{Names, Request};
 use op_slots::Lifecycle;
 use rent_buf::{IoBufMut, OutOfMemory};
 
@@ -57,6 +58,31 @@ pub fn awaited<B>(slot: Option<&Slot<B>>) -> Option<(u64, Direction)>
     }
 }
 
+/// What a poll is to know of the operation in a slot, from one look: the handles that it names, whether its call may make a handle, and
+/// what it waits for. (not in monoio)
+#[derive(Clone, Copy, Debug, PartialEq, Eq)]
+pub struct Sight {
+    /// The handles that its request names.
+    pub names: Names,
+    /// It is in flight, and its request may make a handle.
+    pub maker: bool,
+    /// What it waits for.
+    pub awaited: Option<(u64, Direction)>,
+}
+
+/// The same of the slot that was looked up. (not in monoio)
+pub fn look_at<B>(slot: Option<&Slot<B>>) -> Sight
+    ensures names { listed result.names ≡ named_in (option_copied slot.entry) }
+    ensures maker { result.maker ≡ is_maker (option_copied slot.entry) }
+    ensures awaited { result.awaited ≡ slot_awaits (option_copied slot.entry) }
+{
+    Sight {
+        names: names_in(slot),
+        maker: is_maker(slot),
+        awaited: awaited(slot),
+    }
+}
+
 /// Polls an operation: where it waits for a direction of a handle that is no file, by the bits of that handle (`Records::poll_op`); else
 /// its call is made at once (`polling::poll`). (monoio: `poll_op` of the legacy driver)
 pub fn poll_op<I: NonBlock, B: IoBufMut + Drop>(
@@ -65,8 +91,10 @@ pub fn poll_op<I: NonBlock, B: IoBufMut + Drop>(
     records: &mut Records,
     op: Op,
     task: u64,
+    awaited: Option<(u64, Direction)>,
 ) -> Result<PollOp<B>, (OutOfMemory, Op)>
-    requires { Holds ops.old op }
+    requires holds { Holds ops.old op }
+    requires awaited { awaited ≡ slot_awaits (map.get ops.old.slots.values (key_of op)) }
     ensures polls { IsTrue I.memory → (D : Legacy) → PartsStand B.buffer ops.old (I.view io.old).world D →
         PollsUnless (IsWorldUnmet records.old.records (I.view io.old).world (map.get ops.old.slots.values (key_of op)))
         B.buffer D op ops.new (I.view io.new).world result }
@@ -88,7 +116,7 @@ pub fn poll_op<I: NonBlock, B: IoBufMut + Drop>(
     ensures tokens { TokensFor ops.old ops.new op result }
     ensures given { ops.new.given ≡ ops.old.given }
 {
-    match awaited(ops.peek(op.key())) {
+    match awaited {
         Some((h, dir)) if !io.is_file(h) => records.poll_op(ops, io, op, task, h, dir),
         _ => polling::poll(ops, io, op, task),
     }

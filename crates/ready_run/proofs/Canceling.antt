@@ -16,7 +16,7 @@ use Rattle.ready_driver.specs.LegacyStands.{LegacyStands, CancellerFor, HandleFo
 use Rattle.ready_driver.specs.LegacyState.{group_count}
 use Rattle.ready_driver.specs.LegacyStep.{legacy_answered, legacy_step, cancel_group}
 use Rattle.ready_driver.specs.MemIo.{memory_view}
-use Rattle.ready_run.specs.declared.session.ReadySession.{ReadySession}
+use Rattle.ready_run.specs.declared.inner.Inner.{Inner}
 use Rattle.ready_run.specs.ReadySession.{AreBelow, HasGroups, SessionStands, SessionAnswers}
 use Rattle.ready_run.specs.Submission.{IsUnmade}
 use Rattle.ready_run.proofs.Kept.{canceller-there, canceller-past, canceller-renewed}
@@ -24,37 +24,37 @@ use Rattle.ready_run.proofs.Refusals.{unrefused-new_handle, unrefused-cancel_all
 use Rattle.ready_run.proofs.Steps.{Single, KeepsOps, same-driver, stands-beside}
 
 -- There are as many groups in the driver as in the one as plain data.
-as-many : (session : ReadySession) (D : Legacy) → SessionStands session D → length D.groups ≡ group_count session.driver
+as-many : (session : Inner) (D : Legacy) → SessionStands session D → length D.groups ≡ group_count session.driver
 as-many session D stands =
     ap (λ marks. length marks) (sym stands.driver.groups.marks) ∙ length-map session.driver.members.groups (λ group. group.canceled)
 
 -- The canceller of a number is of the group that it has as plain data.
-pub canceller-at : (session : ReadySession) (D : Legacy) (c g : ℕ) → SessionStands session D →
+pub canceller-at : (session : Inner) (D : Legacy) (c g : ℕ) → SessionStands session D →
     token_at (cancellers_in session.tokens) c ≡ Some g → slice_get D.cancellers c ≡ Some g
 canceller-at session D c g stands there =
     canceller-there D.cancellers c g (ap (λ xs. token_at xs c) (sym stands.groups.cancellers) ∙ there)
 
 -- Where there is none, none was created.
-pub canceller-none : (session : ReadySession) (D : Legacy) (c : ℕ) → SessionStands session D →
+pub canceller-none : (session : Inner) (D : Legacy) (c : ℕ) → SessionStands session D →
     token_at (cancellers_in session.tokens) c ≡ None → length D.cancellers ≤ c
 canceller-none session D c stands none =
     canceller-past D.cancellers c (ap (λ xs. token_at xs c) (sym stands.groups.cancellers) ∙ none)
 
 -- The group of a canceller was made in the driver.
-pub canceller-made : (session : ReadySession) (D : Legacy) (c g : ℕ) → SessionStands session D →
+pub canceller-made : (session : Inner) (D : Legacy) (c g : ℕ) → SessionStands session D →
     token_at (cancellers_in session.tokens) c ≡ Some g → g < group_count session.driver
 canceller-made session D c g stands there =
     subst (λ k. g < k) (as-many session D stands) (stands.groups.cancellers_made c g (canceller-at session D c g stands there))
 
 -- So was that of a cancel handle.
-pub handle-made : (session : ReadySession) (D : Legacy) (handle g : ℕ) → SessionStands session D →
+pub handle-made : (session : Inner) (D : Legacy) (handle g : ℕ) → SessionStands session D →
     slice_get (handles_in session.tokens) handle ≡ Some g → g < group_count session.driver
 handle-made session D handle g stands there =
     subst (λ k. g < k) (as-many session D stands)
     (stands.groups.handles_made handle g (ap (λ xs. slice_get xs handle) (sym stands.groups.handles) ∙ there))
 
 -- A cancel handle that isn't there was never created.
-pub handle-unmade : (session : ReadySession) (D : Legacy) (under : Option ℕ) (handle : ℕ) → SessionStands session D → under ≡ Some handle →
+pub handle-unmade : (session : Inner) (D : Legacy) (under : Option ℕ) (handle : ℕ) → SessionStands session D → under ≡ Some handle →
     slice_get (handles_in session.tokens) handle ≡ None → IsUnmade D under
 handle-unmade session D under handle stands is none = record {
   handle = handle;
@@ -95,7 +95,7 @@ one-more : (groups : List Bool) (mark : Bool) → length (groups ++ mark ∷ [])
 one-more groups mark = length-append groups (mark ∷ [])
 
 -- A new canceller is the session's answer.
-pub answers-canceller : (old new : ReadySession) (D : Legacy) (group number : ℕ) → SessionStands old D →
+pub answers-canceller : (old new : Inner) (D : Legacy) (group number : ℕ) → SessionStands old D →
     by_number new.tokens ≡ by_number old.tokens → cancellers_in new.tokens ≡ cancellers_in old.tokens ++ Some group ∷ [] →
     handles_in new.tokens ≡ handles_in old.tokens → number ≡ length (cancellers_in old.tokens) →
     CancellerFor memory_view built D group new.driver → (Single old → Single new) → KeepsOps old.driver new.driver →
@@ -121,7 +121,7 @@ answers-canceller old new D group number stands tokens added handles is for sing
     }
 
 -- A new cancel handle is the session's answer. The driver stays.
-pub answers-handle : (old new : ReadySession) (D : Legacy) (c group number : ℕ) → SessionStands old D → new.driver ≡ old.driver →
+pub answers-handle : (old new : Inner) (D : Legacy) (c group number : ℕ) → SessionStands old D → new.driver ≡ old.driver →
     by_number new.tokens ≡ by_number old.tokens → cancellers_in new.tokens ≡ cancellers_in old.tokens →
     handles_in new.tokens ≡ handles_in old.tokens ++ group ∷ [] → number ≡ length (handles_in old.tokens) →
     token_at (cancellers_in old.tokens) c ≡ Some group → HandleFor memory_view built D group old.driver →
@@ -149,7 +149,7 @@ answers-handle old new D c group number stands driver tokens cancellers added is
     }
 
 -- The cancel of a group is the session's answer: the canceller of that number has its fresh group.
-pub answers-cancels : (old new : ReadySession) (D : Legacy) (c group fresh : ℕ) (numbers : List ℕ) → SessionStands old D →
+pub answers-cancels : (old new : Inner) (D : Legacy) (c group fresh : ℕ) (numbers : List ℕ) → SessionStands old D →
     by_number new.tokens ≡ by_number old.tokens →
     cancellers_in new.tokens ≡ amended (amended (cancellers_in old.tokens) c (λ place. None)) c (λ place. Some fresh) →
     handles_in new.tokens ≡ handles_in old.tokens → token_at (cancellers_in old.tokens) c ≡ Some group →

@@ -14,7 +14,7 @@ use Rattle.ready_driver.specs.MemIo.{memory_view}
 use Rattle.ready_driver.specs.Readiness.{IsDriven, AreDriven, FollowsMachine, Shows}
 use Rattle.ready_driver.specs.Spelled.{spelled, spelled_reply, spelled_replies, spelled_after, ledger_behind}
 use Rattle.ready_driver.proofs.Runs.{driver-follows}
-use Rattle.ready_run.specs.declared.session.ReadySession.{ReadySession}
+use Rattle.ready_run.specs.declared.inner.Inner.{Inner}
 use Rattle.ready_run.proofs.Unrefused.{unrefused-alike}
 use Rattle.ready_run.specs.ReadySession.{driver_in, SessionStands, StepsFor, ReadyStands, ReadySteps}
 
@@ -60,7 +60,7 @@ reply-follows capacity events event driven one =
     (driver-follows capacity (events ++ event ∷ []) (driven-joined events event driven one)).replies
 
 -- A session's step answers as the machine does.
-pub steps-follow : (old new : ReadySession) (event : Event) (result : Result Reply OutOfMemory) → IsDriven event →
+pub steps-follow : (old new : Inner) (event : Event) (result : Result Reply OutOfMemory) → IsDriven event →
     ((D : Legacy) → SessionStands old D → StepsFor D event new result) → (L : Ledger) → ReadyStands old L → ReadySteps L event new result
 steps-follow old new event (Ok reply) one steps L stands =
     let answers = steps (legacy_after idle stands.events) stands.stands in
@@ -91,11 +91,11 @@ steps-follow old new event (Err refused) one steps L stands =
     }
 
 -- A session stands for the empty ledger of a capacity where it is the new driver as plain data.
-pub stands-idle : (session : ReadySession) (capacity : ℕ) → SessionStands session idle → ReadyStands session (empty capacity)
+pub stands-idle : (session : Inner) (capacity : ℕ) → SessionStands session idle → ReadyStands session (empty capacity)
 stands-idle session capacity stands = record { capacity = capacity; events = []; driven = tt; reached = refl; stands = stands }
 
 -- The driver of a session shows each ledger that the session stands for.
-pub shows-ledger : (session : ReadySession) (L : Ledger) → ReadyStands session L →
+pub shows-ledger : (session : Inner) (L : Ledger) → ReadyStands session L →
     ShowsLedger memory_view built true (driver_in session) L
 shows-ledger session L stands =
     let follows : FollowsMachine stands.capacity stands.events = driver-follows stands.capacity stands.events stands.driven in

@@ -4,6 +4,7 @@ pub mod Refusals
 pub mod Steps
 pub mod Submitting
 pub mod Canceling
+pub mod Parts
 pub mod Turning
 pub mod Polling
 pub mod Starting

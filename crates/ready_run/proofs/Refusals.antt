@@ -22,7 +22,7 @@ use Rattle.ready_driver.specs.LegacyState.{holds_all}
 use Rattle.ready_driver.specs.LegacyStep.{legacy_cause, misses_handle}
 use Rattle.ready_driver.specs.Polling.{LifeFor}
 use Rattle.ready_driver.specs.Registry.{is_users}
-use Rattle.ready_run.specs.declared.session.ReadySession.{ReadySession}
+use Rattle.ready_run.specs.declared.inner.Inner.{Inner}
 use Rattle.ready_run.specs.ReadySession.{SessionStands, is_live}
 
 -- A number that is past a count.
@@ -92,7 +92,7 @@ life-owned false Ignored is = absurd is
 life-owned false (Completed outcome) is = absurd is
 
 -- An operation whose token isn't kept is gone.
-pub no_token-gone : (session : ReadySession) (D : Legacy) (n : ℕ) → SessionStands session D → token_at (by_number session.tokens) n ≡ None →
+pub no_token-gone : (session : Inner) (D : Legacy) (n : ℕ) → SessionStands session D → token_at (by_number session.tokens) n ≡ None →
     is_live D n ≡ false
 no_token-gone session D n stands none = by (slot_at D n) refl
   where
@@ -109,7 +109,7 @@ no_token-gone session D n stands none = by (slot_at D n) refl
         absurd (let both : ◌≡◌ {A = Option Op} None (Some token) = sym none ∙ there in cc)
 
 -- An operation whose token is kept isn't.
-pub token-live : (session : ReadySession) (D : Legacy) (n : ℕ) (op : Op) → SessionStands session D →
+pub token-live : (session : Inner) (D : Legacy) (n : ℕ) (op : Op) → SessionStands session D →
     token_at (by_number session.tokens) n ≡ Some op → is_live D n ≡ true
 token-live session D n op stands there =
     let held = (stands.tokens n op).0 there in

@@ -10,7 +10,7 @@ use Rattle.ready_driver.specs.Legacy.{idle}
 use Rattle.ready_driver.specs.LegacyStands.{LegacyStands}
 use Rattle.ready_driver.specs.LegacyState.{HoldsNone}
 use Rattle.ready_driver.specs.MemIo.{memory_view}
-use Rattle.ready_run.specs.declared.session.ReadySession.{ReadySession}
+use Rattle.ready_run.specs.declared.inner.Inner.{Inner}
 use Rattle.ready_run.specs.ReadySession.{SessionStands}
 
 -- What the user holds in no case it holds once at most.
@@ -18,7 +18,7 @@ few : (k : ℕ) → nat_lt 0 k ≡ false → k ≤ 1
 few k none = grind (arith, nat_tests)
 
 -- A session whose driver is new, and that has no tokens.
-pub stands-new : (session : ReadySession) → LegacyStands memory_view built session.driver idle → session.driver.given ≡ 0 →
+pub stands-new : (session : Inner) → LegacyStands memory_view built session.driver idle → session.driver.given ≡ 0 →
     HoldsNone session.driver → by_number session.tokens ≡ [] → cancellers_in session.tokens ≡ [] → handles_in session.tokens ≡ [] →
     SessionStands session idle
 stands-new session driver given none ops cancellers handles = record {

@@ -36,13 +36,13 @@ use Rattle.ready_driver.specs.LegacyState.{LegacyState, ops_in, SameOps}
 use Rattle.ready_driver.specs.LegacyStep.{legacy_cause, legacy_step, legacy_answered}
 use Rattle.ready_driver.specs.MemIo.{Memory, memory_view}
 use Rattle.ready_driver.specs.Registry.{with_world}
-use Rattle.ready_run.specs.declared.session.ReadySession.{ReadySession}
+use Rattle.ready_run.specs.declared.inner.Inner.{Inner}
 use Rattle.ready_run.specs.ReadySession.{AreSingle, HasGroups, SessionStands, SessionAnswers, StepsFor}
 use Rattle.ready_run.proofs.Kept.{SameTokens, IsGroupless, groups_in, groups-kept, groups-step}
 use Rattle.ready_run.proofs.Single.{single-same}
 
 -- The user holds each handle of a session once at most.
-abbrev pub Single : ReadySession → Type 0
+abbrev pub Single : Inner → Type 0
 Single session = AreSingle session.driver.handling.table
 
 -- A driver keeps every token and makes none, and as many operations were submitted.
@@ -66,7 +66,7 @@ same-driver old new same = subst (λ d. KeepsOps old d) (sym same) (record { tok
 
 -- A session that keeps its operations' tokens is a driver as plain data where its driver is, which holds the tokens that it held, and where
 -- its cancellers and cancel handles are those of that driver.
-pub stands-beside : (old new : ReadySession) (D E : Legacy) → SessionStands old D → by_number new.tokens ≡ by_number old.tokens →
+pub stands-beside : (old new : Inner) (D E : Legacy) → SessionStands old D → by_number new.tokens ≡ by_number old.tokens →
     HasGroups new.tokens E → LegacyStands memory_view built new.driver E → (Single old → Single new) → KeepsOps old.driver new.driver →
     SessionStands new E
 stands-beside old new D E stands tokens groups driver single keeps = record {
@@ -79,14 +79,14 @@ stands-beside old new D E stands tokens groups driver single keeps = record {
 }
 
 -- So is one that keeps all tokens, where the groups of both drivers are the same.
-pub stands-kept : (old new : ReadySession) (D E : Legacy) → SessionStands old D → SameTokens old.tokens new.tokens →
+pub stands-kept : (old new : Inner) (D E : Legacy) → SessionStands old D → SameTokens old.tokens new.tokens →
     groups_in E ≡ groups_in D → LegacyStands memory_view built new.driver E → (Single old → Single new) → KeepsOps old.driver new.driver →
     SessionStands new E
 stands-kept old new D E stands tokens same driver single keeps =
     stands-beside old new D E stands tokens.ops (groups-kept old.tokens new.tokens D E stands.groups tokens.groups same) driver single keeps
 
 -- The driver's answer, where it keeps all tokens and the event makes no group, is the session's.
-pub answers-kept : (old new : ReadySession) (D : Legacy) (event : Event) (reply : Reply) → SessionStands old D →
+pub answers-kept : (old new : Inner) (D : Legacy) (event : Event) (reply : Reply) → SessionStands old D →
     SameTokens old.tokens new.tokens → IsGroupless event → LegacyAnswers memory_view built D event reply new.driver →
     (Single old → Single new) → KeepsOps old.driver new.driver → SessionAnswers D event reply new
 answers-kept old new D event reply stands tokens plain answers single keeps = record {
@@ -95,7 +95,7 @@ answers-kept old new D event reply stands tokens plain answers single keeps = re
 }
 
 -- Where the driver and the tokens are the same, a session is the same driver as plain data.
-pub stands-same : (old new : ReadySession) (D : Legacy) → SessionStands old D → new.driver ≡ old.driver →
+pub stands-same : (old new : Inner) (D : Legacy) → SessionStands old D → new.driver ≡ old.driver →
     SameTokens old.tokens new.tokens → SessionStands new D
 stands-same old new D stands driver tokens =
     stands-kept old new D D stands tokens refl (subst (λ d. LegacyStands memory_view built d D) (sym driver) stands.driver)
@@ -107,7 +107,7 @@ pub step-refused : (D : Legacy) (event : Event) (refusal : Refusal) → legacy_c
 step-refused D event refusal named = ap (λ c. legacy_answered c D event) named
 
 -- So is the session's answer to it.
-pub answers-refused : (old new : ReadySession) (D : Legacy) (event : Event) (refusal : Refusal) → SessionStands old D →
+pub answers-refused : (old new : Inner) (D : Legacy) (event : Event) (refusal : Refusal) → SessionStands old D →
     legacy_cause D event ≡ Some refusal → new.driver ≡ old.driver → SameTokens old.tokens new.tokens →
     SessionAnswers D event (Refused refusal) new
 answers-refused old new D event refusal stands named driver tokens =
@@ -118,7 +118,7 @@ answers-refused old new D event refusal stands named driver tokens =
     }
 
 -- What a look shows is the session's answer, which stays as it is.
-pub answers-looked : (session : ReadySession) (D : Legacy) (h : ℕ) (shown : Shown) (reply : Reply) → SessionStands session D →
+pub answers-looked : (session : Inner) (D : Legacy) (h : ℕ) (shown : Shown) (reply : Reply) → SessionStands session D →
     reply ≡ look_reply shown → LooksFor D h shown → SessionAnswers D (Look h) reply session
 answers-looked session D h shown reply stands is looks = record {
   reply_is = ap (λ next. next.1) looks ∙ sym is;
@@ -126,7 +126,7 @@ answers-looked session D h shown reply stands is looks = record {
 }
 
 -- An operation that is returned or dropped leaves with its token.
-pub answers-taken : (old new : ReadySession) (D : Legacy) (n : ℕ) (op : Op) (event : Event) (reply : Reply) → SessionStands old D →
+pub answers-taken : (old new : Inner) (D : Legacy) (n : ℕ) (op : Op) (event : Event) (reply : Reply) → SessionStands old D →
     token_at (by_number old.tokens) n ≡ Some op → by_number new.tokens ≡ amended (by_number old.tokens) n (λ token. None) →
     KeepsGroups old.tokens new.tokens → IsGroupless event → DropsToken (ops_in old.driver) (ops_in new.driver) op →
     (Single old → Single new) → new.driver.given ≡ old.driver.given → LegacyAnswers memory_view built D event reply new.driver →
@@ -144,10 +144,11 @@ answers-taken old new D n op event reply stands there tokens groups plain taken 
 }
 
 -- A new operation's token stands at the end.
-pub answers-added : (old new : ReadySession) (D : Legacy) (op : Op) (request : Request Buffer Parts) (under : Option ℕ) (reply : Reply) →
+pub answers-added : (old new : Inner) (D : Legacy) (op : Op) (request : Request Buffer Parts) (under : Option ℕ) (reply : Reply) →
     SessionStands old D → by_number new.tokens ≡ by_number old.tokens ++ Some op ∷ [] → KeepsGroups old.tokens new.tokens →
     AddsToken (ops_in old.driver) (ops_in new.driver) op → (Single old → Single new) →
-    LegacyAnswers memory_view built D (Submit request under false) reply new.driver → SessionAnswers D (Submit request under false) reply new
+    LegacyAnswers memory_view built D (Submit request under false) reply new.driver →
+    SessionAnswers D (Submit request under false) reply new
 answers-added old new D op request under reply stands tokens groups adds single answers = record {
   reply_is = answers.reply_is;
   stands = record {
@@ -163,7 +164,7 @@ answers-added old new D op request under reply stands tokens groups adds single 
 }
 
 -- What a submission of a built request answers is what the session answers.
-pub steps-built : (new : ReadySession) (old : ReadySession) (D : Legacy) (own : Request Buf Parts) (request : Request Buffer Parts)
+pub steps-built : (new : Inner) (old : Inner) (D : Legacy) (own : Request Buf Parts) (request : Request Buffer Parts)
     (group under : Option ℕ) (result : Result Reply NoMemory) →
     IfOk result (λ reply. (D : Legacy) (under : Option ℕ) → SessionStands old D → IsUnder (seen D) group under →
     SessionAnswers D (Submit (plain_request built own) under false) reply new) →
@@ -186,7 +187,7 @@ pub single-world : (old new : LegacyState Memory Buf) (now : Memory) →
 single-world old new now same single = subst (λ d. AreSingle d.handling.table) (sym same) single
 
 -- A refused event that left the driver as it was as plain data.
-pub answers-left : (old new : ReadySession) (D : Legacy) (event : Event) (refusal : Refusal) → SessionStands old D →
+pub answers-left : (old new : Inner) (D : Legacy) (event : Event) (refusal : Refusal) → SessionStands old D →
     SameTokens old.tokens new.tokens → legacy_cause D event ≡ Some refusal → LegacyStands memory_view built new.driver D →
     (Single old → Single new) → KeepsOps old.driver new.driver → SessionAnswers D event (Refused refusal) new
 answers-left old new D event refusal stands tokens named driver single keeps =
@@ -197,7 +198,7 @@ answers-left old new D event refusal stands tokens named driver single keeps =
     }
 
 -- An end that was refused is the session's answer.
-pub answers-unended : (old new : ReadySession) (D : Legacy) (h : ℕ) (why : WorldError) → SessionStands old D →
+pub answers-unended : (old new : Inner) (D : Legacy) (h : ℕ) (why : WorldError) → SessionStands old D →
     SameTokens old.tokens new.tokens → EndsFor built D h new.driver (Err why) →
     WorldEnds old.driver.handling.io.world h new.driver.handling.io.world (Err why) →
     (Single old → Single new) → KeepsOps old.driver new.driver → SessionAnswers D (End h) (Refused BadHandleEvent) new
@@ -210,15 +211,16 @@ pub keeps-members : (old new : LegacyState Memory Buf) (members : Membership) �
 keeps-members old new members same = subst (λ d. KeepsOps old d) (sym same) (record { tokens = λ op. (λ h. h, λ h. h); given = refl })
 
 -- Under a canceled group the driver is the same, and its answer is the session's.
-pub answers-returned : (old new : ReadySession) (D : Legacy) (request : Request Buffer Parts) (under : Option ℕ) (reply : Reply) →
+pub answers-returned : (old new : Inner) (D : Legacy) (request : Request Buffer Parts) (under : Option ℕ) (reply : Reply) →
     SessionStands old D → SameTokens old.tokens new.tokens → new.driver ≡ old.driver →
-    LegacyAnswers memory_view built D (Submit request under false) reply new.driver → SessionAnswers D (Submit request under false) reply new
+    LegacyAnswers memory_view built D (Submit request under false) reply new.driver →
+    SessionAnswers D (Submit request under false) reply new
 answers-returned old new D request under reply stands tokens same answers =
     answers-kept old new D (Submit request under false) reply stands tokens tt answers
     (λ single. subst (λ d. AreSingle d.handling.table) (sym same) single) (same-driver old.driver new.driver same)
 
 -- A session whose submission was refused is the same driver as plain data.
-pub stands-unsubmitted : (old new : ReadySession) (D : Legacy) (request : Request Buf Parts) (refused : SubmitError Buf) →
+pub stands-unsubmitted : (old new : Inner) (D : Legacy) (request : Request Buf Parts) (refused : SubmitError Buf) →
     SessionStands old D → SameTokens old.tokens new.tokens → LegacyStands memory_view built new.driver D →
     SubmitRefused memory_view true true request old.driver new.driver refused → SessionStands new D
 stands-unsubmitted old new D request refused stands tokens driver why =

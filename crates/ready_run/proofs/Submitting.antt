@@ -19,7 +19,7 @@ use Rattle.ready_driver.specs.Legacy.{Legacy, seen, live_at}
 use Rattle.ready_driver.specs.LegacyState.{holds_all, live_slots}
 use Rattle.ready_driver.specs.LegacyStep.{legacy_cause, misses_handle}
 use Rattle.ready_driver.specs.Readiness.{IsDriven}
-use Rattle.ready_run.specs.declared.session.ReadySession.{ReadySession}
+use Rattle.ready_run.specs.declared.inner.Inner.{Inner}
 use Rattle.ready_run.specs.ReadySession.{SessionStands}
 use Rattle.ready_run.specs.Submission.{IsUnmade}
 use Rattle.ready_run.proofs.Refusals.{below-test, past-test, misses-holds_all}
@@ -52,7 +52,7 @@ made-under L request (Some g) (Some handle) is =
     below-test (length L.cancel_handles) handle (slice_get_within L.cancel_handles handle g is)
 
 -- The user holds each handle that a submission names where the driver says so.
-lacks-none : (session : ReadySession) (D : Legacy) (request : Request Buffer Parts) (held : Bool) → SessionStands session D →
+lacks-none : (session : Inner) (D : Legacy) (request : Request Buffer Parts) (held : Bool) → SessionStands session D →
     holds_all session.driver.handling.table (named request) ≡ held → misses_handle D (named request) ≡ not held
 lacks-none session D request held stands is =
     misses-holds_all session.driver.handling.table D stands.driver.handles.users (named request) ∙ ap not is
@@ -62,11 +62,12 @@ pub cause-submit_unmade : (D : Legacy) (request : Request Buffer Parts) (under :
     legacy_cause D (Submit request under false) ≡ Some NoCanceller
 cause-submit_unmade D request under unmade =
     causes D request under true (misses_handle D (named request)) (is_full D under)
-    (ap (λ u. has_no_canceller (seen D) (Submit request u false)) unmade.under_is ∙ past-test (length D.cancel_handles) unmade.handle unmade.past)
+    (ap (λ u. has_no_canceller (seen D) (Submit request u false)) unmade.under_is
+    ∙ past-test (length D.cancel_handles) unmade.handle unmade.past)
     refl refl
 
 -- One that names a handle which the user doesn't hold is refused.
-pub cause-submit_handle : (session : ReadySession) (D : Legacy) (request : Request Buffer Parts) (group under : Option ℕ) →
+pub cause-submit_handle : (session : Inner) (D : Legacy) (request : Request Buffer Parts) (group under : Option ℕ) →
     SessionStands session D → IsUnder (seen D) group under → holds_all session.driver.handling.table (named request) ≡ false →
     legacy_cause D (Submit request under false) ≡ Some NoHandle
 cause-submit_handle session D request group under stands is absent =
@@ -74,7 +75,7 @@ cause-submit_handle session D request group under stands is absent =
     (made-under (seen D) request group under is) (lacks-none session D request false stands absent) refl
 
 -- Where as many operations as there may be are live, another one is refused as Full, unless its group is marked.
-pub cause-submit_full : (session : ReadySession) (D : Legacy) (request : Request Buffer Parts) (group under : Option ℕ) (live : ℕ)
+pub cause-submit_full : (session : Inner) (D : Legacy) (request : Request Buffer Parts) (group under : Option ℕ) (live : ℕ)
     (marked : Bool) → SessionStands session D → IsUnder (seen D) group under →
     holds_all session.driver.handling.table (named request) ≡ true → live ≡ live_slots session.driver → MOST_LIVE ≤ live →
     marked ≡ is_under_marked (seen D) under → marked ≡ false → legacy_cause D (Submit request under false) ≡ Some Full
@@ -84,7 +85,7 @@ cause-submit_full session D request group under live marked stands is held count
     ∙ ap (λ k. nat_le MOST_LIVE k) (sym stands.driver.live ∙ sym count) ∙ past-test MOST_LIVE live full)
 
 -- A submission of handles that the user holds isn't refused where its group is marked.
-pub unrefused-marked : (session : ReadySession) (D : Legacy) (request : Request Buffer Parts) (group under : Option ℕ) (marked : Bool) →
+pub unrefused-marked : (session : Inner) (D : Legacy) (request : Request Buffer Parts) (group under : Option ℕ) (marked : Bool) →
     SessionStands session D → IsUnder (seen D) group under → holds_all session.driver.handling.table (named request) ≡ true →
     marked ≡ is_under_marked (seen D) under → marked ≡ true → legacy_cause D (Submit request under false) ≡ None
 unrefused-marked session D request group under marked stands is held same marks =
@@ -92,7 +93,7 @@ unrefused-marked session D request group under marked stands is held same marks 
     (ap (λ b. not b && nat_le MOST_LIVE (length (live_at D))) (sym same ∙ marks))
 
 -- Nor is one refused where fewer operations are live.
-pub unrefused-fewer : (session : ReadySession) (D : Legacy) (request : Request Buffer Parts) (group under : Option ℕ) (live : ℕ) →
+pub unrefused-fewer : (session : Inner) (D : Legacy) (request : Request Buffer Parts) (group under : Option ℕ) (live : ℕ) →
     SessionStands session D → IsUnder (seen D) group under → holds_all session.driver.handling.table (named request) ≡ true →
     live ≡ live_slots session.driver → live < MOST_LIVE → legacy_cause D (Submit request under false) ≡ None
 unrefused-fewer session D request group under live stands is held count fewer =

@@ -17,7 +17,7 @@ use Rattle.ready_driver.specs.MemIo.{Memory, memory_view}
 use Rattle.ready_driver.specs.Polling.{SlotsStand}
 use Rattle.ready_driver.specs.Registry.{Handling}
 use Rattle.ready_driver.specs.Turns.{AreReported}
-use Rattle.ready_run.specs.declared.session.ReadySession.{ReadySession}
+use Rattle.ready_run.specs.declared.inner.Inner.{Inner}
 use Rattle.ready_run.specs.ReadySession.{SessionStands}
 use Rattle.ready_run.proofs.Kept.{SameTokens}
 use Rattle.ready_run.proofs.Single.{single-same}
@@ -95,7 +95,7 @@ module _ (old new : LegacyState Memory Buf) (turned : Turned)
       does.shows refl st.handles.keyed
 
 -- A session whose driver made a turn is the same driver as plain data.
-pub stands-turned : (old new : ReadySession) (turned : Turned) (D : Legacy) → SessionStands old D → SameTokens old.tokens new.tokens →
+pub stands-turned : (old new : Inner) (turned : Turned) (D : Legacy) → SessionStands old D → SameTokens old.tokens new.tokens →
     LegacyTurns memory_view true true true old.driver new.driver turned → SessionStands new D
 stands-turned old new turned D stands tokens turns =
     stands-kept old new D D stands tokens refl (driver-turned old.driver new.driver turned turns D stands.driver)

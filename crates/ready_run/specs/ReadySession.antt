@@ -18,14 +18,14 @@ use Rattle.ready_driver.specs.LegacyStep.{legacy_cause, legacy_step, legacy_afte
 use Rattle.ready_driver.specs.MemIo.{Memory, memory_view}
 use Rattle.ready_driver.specs.Readiness.{AreDriven}
 use Rattle.ready_driver.specs.Spelled.{spelled, spelled_reply, spelled_after, ledger_behind}
-use Rattle.ready_run.specs.declared.session.ReadySession.{ReadySession}
+use Rattle.ready_run.specs.declared.inner.Inner.{Inner}
 
 -- The driver of a session.
-abbrev pub driver_in : ReadySession → LegacyState Memory Buf
+abbrev pub driver_in : Inner → LegacyState Memory Buf
 driver_in session = session.driver
 
 -- The tokens of a session.
-abbrev pub tokens_in : ReadySession → Tokens
+abbrev pub tokens_in : Inner → Tokens
 tokens_in session = session.tokens
 
 -- The user holds each handle once at most.
@@ -45,31 +45,36 @@ pub record HasGroups (kept : Tokens) (D : Legacy) : Type 0 where
 
 -- A session is a driver as plain data: its driver is, and its user holds each handle once at most; there is a place for each operation that
 -- was submitted, with its token where the driver holds it; and the cancellers and cancel handles are those of that driver.
-pub record SessionStands (session : ReadySession) (D : Legacy) : Type 0 where
+pub record SessionStands (session : Inner) (D : Legacy) : Type 0 where
   pub driver : LegacyStands memory_view built (driver_in session) D
   pub single : AreSingle (driver_in session).handling.table
   pub numbered : length (by_number (tokens_in session)) ≡ (driver_in session).given
   pub tokens : AreHeld (by_number (tokens_in session)) (ops_in (driver_in session))
   pub groups : HasGroups (tokens_in session) D
 
+-- These parts belong together: there is a driver as plain data that a session of them is.
+pub record AreParts (session : Inner) : Type 0 where
+  pub plain : Legacy
+  pub stands : SessionStands session plain
+
 -- A reply is that of the driver as plain data to an event, and the session is the next one.
-pub record SessionAnswers (D : Legacy) (event : Event) (reply : Reply) (new : ReadySession) : Type 0 where
+pub record SessionAnswers (D : Legacy) (event : Event) (reply : Reply) (new : Inner) : Type 0 where
   pub reply_is : (legacy_step D event).1 ≡ reply
   pub stands : SessionStands new (legacy_step D event).0
 
 -- Memory ran out at an event: the session is the same driver as plain data, which doesn't refuse the event.
-pub record RanOut (D : Legacy) (event : Event) (new : ReadySession) : Type 0 where
+pub record RanOut (D : Legacy) (event : Event) (new : Inner) : Type 0 where
   pub stands : SessionStands new D
   pub unrefused : legacy_cause D event ≡ None
 
 -- What a step answers: as the driver as plain data does, or that memory ran out.
-abbrev pub StepsFor : Legacy → Event → ReadySession → Result Reply OutOfMemory → Type 0
+abbrev pub StepsFor : Legacy → Event → Inner → Result Reply OutOfMemory → Type 0
 StepsFor D event new (Ok reply) = SessionAnswers D event reply new
 StepsFor D event new (Err refused) = RanOut D event new
 
 -- A session stands for a ledger: some events lead to it, as they are spelled, from the empty ledger of a capacity, and the session is the
 -- driver as plain data that answered these events.
-pub record ReadyStands (session : ReadySession) (L : Ledger) : Type 0 where
+pub record ReadyStands (session : Inner) (L : Ledger) : Type 0 where
   pub capacity : ℕ
   pub events : List Event
   pub driven : AreDriven events
@@ -77,17 +82,17 @@ pub record ReadyStands (session : ReadySession) (L : Ledger) : Type 0 where
   pub stands : SessionStands session (legacy_after idle events)
 
 -- A reply is the machine's to an event as it is spelled, and the session stands for the ledger behind it.
-pub record ReadyAnswers (L : Ledger) (event : Event) (reply : Reply) (new : ReadySession) : Type 0 where
+pub record ReadyAnswers (L : Ledger) (event : Event) (reply : Reply) (new : Inner) : Type 0 where
   pub reply_is : spelled_reply L (spelled L event) ≡ reply
   pub stands : ReadyStands new (ledger_behind L event)
 
 -- Memory ran out at an event: the session stands for the same ledger, in which the machine doesn't refuse the event.
-pub record ReadyRanOut (L : Ledger) (event : Event) (new : ReadySession) : Type 0 where
+pub record ReadyRanOut (L : Ledger) (event : Event) (new : Inner) : Type 0 where
   pub stands : ReadyStands new L
   pub unrefused : cause L event ≡ None
 
 -- What a step answers: as the machine does, or that memory ran out.
-abbrev pub ReadySteps : Ledger → Event → ReadySession → Result Reply OutOfMemory → Type 0
+abbrev pub ReadySteps : Ledger → Event → Inner → Result Reply OutOfMemory → Type 0
 ReadySteps L event new (Ok reply) = ReadyAnswers L event reply new
 ReadySteps L event new (Err refused) = ReadyRanOut L event new
 

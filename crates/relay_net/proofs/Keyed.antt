@@ -1,7 +1,7 @@
 -- Each call of the driver leaves each handle that is held registered, over a world in memory.
 use Rattle.std.proofs.Common.{ℕ, suc, ◌≡◌, ◌∙◌, ap, sym, refl, subst, arith, Bool, IsTrue, true, false, List, [], ◌∷◌, ◌++◌, length}
 use Rattle.std.proofs.Common.{Option, Some, None, Ok, Err, inl, inr, length-append}
-use Rattle.std.specs.Prelude.{is_some, slice_get, unwrap_or}
+use Rattle.std.specs.Prelude.{is_some, slice_get, unwrap_or, if◌then◌else◌}
 use Rattle.std.specs.FinMap as map
 use Rattle.rent_buf.specs.Buf.{built}
 use Rattle.rent_buf.specs.Buffer.{Buffer}
@@ -42,14 +42,16 @@ use Rattle.ready_driver.specs.LegacyStands.{LegacyStands}
 use Rattle.ready_driver.specs.LegacyState.{LegacyState, holds_all, ops_in}
 use Rattle.ready_driver.specs.LegacyTurns.{LegacyTurns, TurnsBy, turning_in}
 use Rattle.ready_driver.specs.MemIo.{Memory, memory_view}
-use Rattle.ready_driver.specs.Records.{Kept, changed, is_registered, with_registered}
+use Rattle.ready_driver.specs.Records.{Kept, changed, record_at, with_registered}
+use Rattle.ready_driver.specs.declared.records.Record.{Record}
 use Rattle.ready_driver.specs.Registry.{AreKeyed, GivesUser, Handling, LetsGo, MakesReady, TriesFor, is_known}
-use Rattle.ready_driver.specs.Registry.{keyed_each, keyed_unless, unheld_if, without_keys}
-use Rattle.ready_driver.specs.Reports.{with_key, with_made_key}
+use Rattle.ready_driver.specs.Registry.{keyed_by, keyed_each, unheld_if, without_keys}
+use Rattle.ready_driver.specs.Reports.{has_key, is_keyed, with_key, with_made_key}
 use Rattle.ready_driver.specs.declared.non_block.NonBlockError.{NonBlockError}
 use Rattle.ready_driver.proofs.Naming.{all-known}
 use Rattle.ready_driver.proofs.Registering.{keys-kept}
 use Rattle.ready_driver.proofs.Parting.{length-without}
+use Rattle.ready_driver.proofs.Shown.{keyed-key}
 use Rattle.op_driver.specs.Legacy.{LegacyDrops, LegacyPolls, LegacySubmits}
 use Rattle.relay_net.specs.Connection.{far_of, near_of}
 use Rattle.relay_net.specs.Flow.{IfAsked, IsPending, IsReceive, IsSend, empty_buffer}
@@ -85,40 +87,47 @@ keeps_then view memory old mid new first second = record {
 same_keyed : (old new : Table) (keys : List (Option ℕ)) → new.holders ≡ old.holders → AreKeyed old keys → AreKeyed new keys
 same_keyed old new keys same all k known = all k (sym (ap (λ m. is_some (map.get m k)) same) ∙ known)
 
--- A key that is written once more leaves each handle that is held with its own.
-key_again : (table : Table) (keys : List (Option ℕ)) (h : ℕ) → AreKeyed table keys → AreKeyed table (with_key keys h (Some h))
-key_again table keys h all k known = elim (same-or-not k h) [
-  | inl e ↦ (
-      ap (slice_get (with_key keys h (Some h))) e
-      ∙ get-amended-same (λ old. Some h) keys h (Some h) (subst (λ n. slice_get keys n ≡ Some (Some n)) e (all k known))
-      ∙ ap (λ q. Some (Some q)) (sym e))
-  | inr e ↦ get-amended-other (λ old. Some h) keys h k e ∙ all k known
+-- A key that is written once more leaves each handle that is held with one.
+key_again : (table : Table) (keys : List (Option ℕ)) (h key : ℕ) → AreKeyed table keys → AreKeyed table (with_key keys h (Some key))
+key_again table keys h key all k known = elim (same-or-not k h) [
+  | inl e ↦
+      let had = keyed-key keys h (subst (λ n. is_keyed keys n ≡ true) e (all k known)) in
+      ap has_key (ap (slice_get (with_key keys h (Some key))) e ∙ get-amended-same (λ old. Some key) keys h (Some had.0) had.1)
+  | inr e ↦ ap has_key (get-amended-other (λ old. Some key) keys h k e) ∙ all k known
 ]
 
--- So does one that is written only if the handle has none.
-key_unless : (table : Table) (keys : List (Option ℕ)) (h : ℕ) (is : Bool) → AreKeyed table keys → AreKeyed table (keyed_unless is keys h)
-key_unless table keys h true all = all
-key_unless table keys h false all = key_again table keys h all
+-- So does one that is written only if the handle has a record that isn't registered.
+key_by : (table : Table) (keys : List (Option ℕ)) (h : ℕ) (one : Option Record) → AreKeyed table keys → AreKeyed table (keyed_by one keys h)
+key_by table keys h None all = all
+key_by table keys h (Some one) all = by one.registered
+  where
+    by : (b : Bool) → AreKeyed table (if◌then◌else◌ {A = List (Option ℕ)} b keys (with_key keys h (Some one.key)))
+    by true = all
+    by false = key_again table keys h one.key all
 
 -- It makes no key.
-unless_length : (keys : List (Option ℕ)) (h : ℕ) (is : Bool) → length (keyed_unless is keys h) ≡ length keys
-unless_length keys h true = refl
-unless_length keys h false = length-amended (λ old. Some h) keys h
+by_length : (keys : List (Option ℕ)) (h : ℕ) (one : Option Record) → length (keyed_by one keys h) ≡ length keys
+by_length keys h None = refl
+by_length keys h (Some one) = by one.registered
+  where
+    by : (b : Bool) → length (if◌then◌else◌ {A = List (Option ℕ)} b keys (with_key keys h (Some one.key))) ≡ length keys
+    by true = refl
+    by false = length-amended (λ old. Some one.key) keys h
 
 -- So do the keys of several handles, written one after another.
 each_keyed : (table : Table) (handles : List ℕ) (records : Kept) (keys : List (Option ℕ)) → AreKeyed table keys
     → AreKeyed table (keyed_each records keys handles)
 each_keyed table [] records keys all = all
 each_keyed table (h ∷ handles) records keys all =
-    each_keyed table handles (changed records h (with_registered true)) (keyed_unless (is_registered records h) keys h)
-    (key_unless table keys h (is_registered records h) all)
+    each_keyed table handles (changed records h (with_registered true)) (keyed_by (record_at records h) keys h)
+    (key_by table keys h (record_at records h) all)
 
 -- Nor do several.
 each_length : (handles : List ℕ) (records : Kept) (keys : List (Option ℕ)) → length (keyed_each records keys handles) ≡ length keys
 each_length [] records keys = refl
 each_length (h ∷ handles) records keys =
-    each_length handles (changed records h (with_registered true)) (keyed_unless (is_registered records h) keys h)
-    ∙ unless_length keys h (is_registered records h)
+    each_length handles (changed records h (with_registered true)) (keyed_by (record_at records h) keys h)
+    ∙ by_length keys h (record_at records h)
 
 -- A handle was held before an operation joined, where it is held then.
 joined_held : (table : Table) (handles : List ℕ) → ((h : ℕ) → has_number h handles ≡ true → is_known table h ≡ true) → (k : ℕ)
@@ -164,7 +173,7 @@ settled_keyed table keys h held true there all k known = elim (same-or-not k h) 
       ∙ ap is_some (gone-same table.holders h)) ∙ known in
       absurd cc)
   | inr e ↦ (
-      get-amended-other (λ old. None) keys h k e ∙ all k (sym (ap is_some (gone-other table.holders h k e)) ∙ known))
+      ap has_key (get-amended-other (λ old. None) keys h k e) ∙ all k (sym (ap is_some (gone-other table.holders h k e)) ∙ known))
 ]
 settled_keyed table keys h held false there all k known = all k (sym (keys-kept table.holders h held (there refl) k) ∙ known)
 
@@ -193,8 +202,8 @@ left_keyed (h ∷ handles) table keys all =
 -- A handle that was made has no key yet, and all others have theirs.
 appended_keyed : (table : Table) (keys : List (Option ℕ)) → AreKeyed table keys → AreKeyed table (keys ++ None ∷ [])
 appended_keyed table keys all k known = elim (joined-cases keys None k) [
-  | inl e ↦ (let no : ◌≡◌ {A = Option (Option ℕ)} None (Some (Some k)) = sym e.1 ∙ all k known in absurd cc)
-  | inr e ↦ e.1 ∙ all k known
+  | inl e ↦ (let no : ◌≡◌ {A = Bool} false true = sym (ap has_key e.1) ∙ all k known in absurd cc)
+  | inr e ↦ ap has_key e.1 ∙ all k known
 ]
 
 -- So it is of each handle that a call may have made.
@@ -221,14 +230,12 @@ appended_last keys now made h size at is =
     ap (λ ks. slice_get ks h) is ∙ ap (slice_get (keys ++ None ∷ [])) (at ∙ sym size) ∙ get-append-end keys None
 
 -- The user got a handle, which is registered.
-given_keyed : (old new : Table) (keys : List (Option ℕ)) (h : ℕ) → AreKeyed old keys → slice_get keys h ≡ Some None
-    → new.holders ≡ map.insert old.holders h by_user → AreKeyed new (with_key keys h (Some h))
-given_keyed old new keys h all place held k known = elim (same-or-not k h) [
-  | inl e ↦ (
-      ap (slice_get (with_key keys h (Some h))) e ∙ get-amended-same (λ old. Some h) keys h None place
-      ∙ ap (λ q. Some (Some q)) (sym e))
+given_keyed : (old new : Table) (keys : List (Option ℕ)) (h key : ℕ) → AreKeyed old keys → slice_get keys h ≡ Some None
+    → new.holders ≡ map.insert old.holders h by_user → AreKeyed new (with_key keys h (Some key))
+given_keyed old new keys h key all place held k known = elim (same-or-not k h) [
+  | inl e ↦ ap has_key (ap (slice_get (with_key keys h (Some key))) e ∙ get-amended-same (λ old. Some key) keys h None place)
   | inr e ↦ (
-      get-amended-other (λ old. Some h) keys h k e
+      ap has_key (get-amended-other (λ old. Some key) keys h k e)
       ∙ all k (sym (ap is_some (ap (λ m. map.get m k) held ∙ put-other old.holders h by_user k e)) ∙ known))
 ]
 
@@ -256,11 +263,11 @@ module _ {I : Type 0} (view : I → IoView) where
         → IsTrue memory → HasKeys view old → HasKeys view new
     gives_keys old new h gives place memory_is has = by-taken gives.taken gives.tries
       where
-        by-taken : (taken : Bool) → TriesFor tells memory h (view old.io) (view new.io) taken → HasKeys view new
+        by-taken : (taken : Bool) → TriesFor tells memory h gives.key (view old.io) (view new.io) taken → HasKeys view new
         by-taken true tries = record {
           keyed = subst (AreKeyed new.table) (sym (tries.0.keys_are memory_is))
-              (given_keyed old.table new.table (view old.io).keys h has.keyed place gives.table);
-          sized = ap length (tries.0.keys_are memory_is) ∙ length-amended (λ old. Some h) (view old.io).keys h ∙ has.sized
+              (given_keyed old.table new.table (view old.io).keys h gives.key has.keyed place gives.table);
+          sized = ap length (tries.0.keys_are memory_is) ∙ length-amended (λ old. Some gives.key) (view old.io).keys h ∙ has.sized
               ∙ sym tries.0.made;
         }
         by-taken false tries = absurd (tries.1 memory_is)

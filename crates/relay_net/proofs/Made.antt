@@ -52,7 +52,8 @@ module _ {I : Type 0} (view : I → IoView) (tells memory : Bool) where
   gives_made : (old new : Handling I) (h : ℕ) → GivesUser view tells memory old h new → (view new.io).made ≡ (view old.io).made
   gives_made old new h gives = by-taken gives.taken gives.tries
     where
-      by-taken : (taken : Bool) → TriesFor tells memory h (view old.io) (view new.io) taken → (view new.io).made ≡ (view old.io).made
+      by-taken : (taken : Bool) → TriesFor tells memory h gives.key (view old.io) (view new.io) taken → (view new.io).made ≡ (view
+          old.io).made
       by-taken true tries = tries.0.made
       by-taken false tries = tries.0.made
 

@@ -336,7 +336,7 @@ opened_widens view tells memory old new h opened rest =
       },
     )
   where
-    by-taken : (taken : Bool) → TriesFor tells memory h (view opened.mid.io) (view new.handling.io) taken
+    by-taken : (taken : Bool) → TriesFor tells memory h opened.user.key (view opened.mid.io) (view new.handling.io) taken
         → IsLater (view opened.mid.io) (view new.handling.io) × (IsTrue tells → world_of view new ≡ (view opened.mid.io).world)
     by-taken true tries = (tries.0.later, tries.0.world)
     by-taken false tries = (tries.0.later, tries.0.world)

@@ -319,7 +319,7 @@ module _ {I : Type 0} (view : I → IoView) (tells memory : Bool) where
       (subst (λ h. IsLater (view old.io) (view h.io)) (sym hands) (later-same (view old.io)), λ t. ap (λ h. (view h.io).world) hands)
   handed_still old new (Some h) hands = by-taken hands.1.taken hands.1.tries
     where
-      by-taken : (taken : Bool) → TriesFor tells memory h (view old.io) (view new.io) taken
+      by-taken : (taken : Bool) → TriesFor tells memory h hands.1.key (view old.io) (view new.io) taken
           → IsLater (view old.io) (view new.io) × (IsTrue tells → (view new.io).world ≡ (view old.io).world)
       by-taken true tries = (tries.0.later, tries.0.world)
       by-taken false tries = (tries.0.later, tries.0.world)

@@ -31,7 +31,7 @@ pub record IsAtHand {I : Type 0} (view : I → IoView) (driver : LegacyState I B
   pub listens : IsListener (world_of view driver) h
   pub bits : meets (io_at driver.handling.records h).ready (mask_of Read) ≡ true
 
--- A handle of a driver listens, and each handle that is held is registered with its own number.
+-- A handle of a driver listens, and each handle that is held is registered.
 pub record MayListen {I : Type 0} (view : I → IoView) (driver : LegacyState I Buf) (h : ℕ) : Type 0 where
   pub listens : IsListener (world_of view driver) h
   pub keyed : AreKeyed driver.handling.table (view driver.handling.io).keys

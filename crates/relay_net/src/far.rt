@@ -15,7 +15,7 @@ use rent_buf::Buf;
 pub trait Far<I: Sockets>: Drop {
     /// The other end of the connection whose near handle this is, which the user holds: the near handle itself, or a new one, which the
     /// user got. No bytes move. `Fault` comes only where the object's count of faults rose. Over a world in memory each handle that
-    /// somebody holds is registered with its own number, if it was so before. (not in monoio)
+    /// somebody holds is registered, if it was so before. (not in monoio)
     fn far(
         &mut self,
         driver: &mut LegacyDriver<I, Buf>,

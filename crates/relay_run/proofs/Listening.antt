@@ -1,6 +1,6 @@
 -- What it leaves of an object that a driver over it listened, or couldn't.
 use Rattle.std.proofs.Common.{ℕ, zero, suc, ◌≡◌, ◌≢◌, ◌≤◌, ◌∙◌, inl, inr, ap, sym, refl, subst, arith, Bool, IsTrue, true, false}
-use Rattle.std.proofs.Common.{[], ◌∷◌, ◌++◌, length, Option, Some, None}
+use Rattle.std.proofs.Common.{[], ◌∷◌, ◌++◌, length, Some, None}
 use Rattle.std.specs.Prelude.{is_some, slice_get}
 use Rattle.std.specs.FinMap as map
 use Rattle.rent_buf.specs.Counts.{Rose}
@@ -13,7 +13,7 @@ use Rattle.driver_core.proofs.Maps.{put-other}
 use Rattle.ready_driver.specs.Dialing.{IsOpened, IsUnopened}
 use Rattle.ready_driver.specs.Io.{IoView, IsLater}
 use Rattle.ready_driver.specs.Registry.{AreKeyed, Handling, TriesFor, is_known, is_old}
-use Rattle.ready_driver.specs.Reports.{with_key}
+use Rattle.ready_driver.specs.Reports.{has_key, is_keyed, with_key}
 use Rattle.ready_driver.specs.declared.non_block.NonBlockError.{NonBlockError}
 use Rattle.ready_driver.specs.declared.non_block.NonBlockError.TheVariants as non_block
 use Rattle.relay_run.specs.Relaying.{HasListened, IsListening, RunsOver, refused_by}
@@ -31,9 +31,9 @@ starves memory limit rounds old new order = record {
 }
 
 -- No key is among none.
-no_keys : (k : ℕ) (key : Option ℕ) → slice_get [] k ≡ Some key → ⊥
-no_keys zero key there = cc
-no_keys (suc k) key there = cc
+no_keys : (k : ℕ) → is_keyed [] k ≡ true → ⊥
+no_keys zero there = cc
+no_keys (suc k) there = cc
 
 -- Each handle but the first of one that listens: there is none.
 going_single : (h k : ℕ) (handle : HandleState) → h ≡ 0 → k ≢ h → slice_get (fresh Listener ∷ []) k ≡ Some handle
@@ -43,9 +43,9 @@ going_single h (suc k) handle at other there = absurd cc
 
 -- A world in memory whose one handle listens and is registered.
 single_listens : {I : Type 0} (view : I → IoView) (all : Handling I) (h : ℕ) → h ≡ 0 → (view all.io).world ≡ fresh Listener ∷ []
-    → (view all.io).keys ≡ Some 0 ∷ [] → (view all.io).made ≡ 1
+    → (key : ℕ) → (view all.io).keys ≡ Some key ∷ [] → (view all.io).made ≡ 1
     → ((k : ℕ) → k ≢ h → is_known all.table k ≡ true → ⊥) → IsListening view all h
-single_listens view all h at world keys made alone = record {
+single_listens view all h at world key keys made alone = record {
   listens = record {
     handle = fresh Listener;
     there = ap (λ w. slice_get w h) world ∙ ap (slice_get (fresh Listener ∷ [])) at;
@@ -53,9 +53,7 @@ single_listens view all h at world keys made alone = record {
   };
   keyed = record {
     keyed = λ k known. elim (same-or-not k h) [
-      | inl e ↦ (
-          ap (λ ks. slice_get ks k) keys ∙ ap (slice_get (Some 0 ∷ [])) (e ∙ at)
-          ∙ ap (λ n. Some (Some n)) (sym (e ∙ at)))
+      | inl e ↦ ap has_key (ap (λ ks. slice_get ks k) keys ∙ ap (slice_get (Some key ∷ [])) (e ∙ at))
       | inr e ↦ absurd (alone k e known)
     ];
     sized = ap length keys ∙ sym made;
@@ -64,11 +62,11 @@ single_listens view all h at world keys made alone = record {
 }
 
 -- What trying to register a handle left of the object.
-tried : (tells memory : Bool) (h : ℕ) (old new : IoView) (taken : Bool) → TriesFor tells memory h old new taken
+tried : (tells memory : Bool) (h key : ℕ) (old new : IoView) (taken : Bool) → TriesFor tells memory h key old new taken
     → IsLater old new × (new.made ≡ old.made) × (IsTrue tells → new.world ≡ old.world)
-    × (IsTrue memory → new.keys ≡ with_key old.keys h (Some h))
-tried tells memory h old new true tries = (tries.0.later, tries.0.made, tries.0.world, tries.0.keys_are)
-tried tells memory h old new false tries = (tries.0.later, tries.0.made, tries.0.world, λ is. absurd (tries.1 is))
+    × (IsTrue memory → new.keys ≡ with_key old.keys h (Some key))
+tried tells memory h key old new true tries = (tries.0.later, tries.0.made, tries.0.world, tries.0.keys_are)
+tried tells memory h key old new false tries = (tries.0.later, tries.0.made, tries.0.world, λ is. absurd (tries.1 is))
 
 -- A driver over an object listened.
 pub opened_listens : {I : Type 0} (view : I → IoView) (tells memory : Bool) (io : I) (old new : Handling I) (h : ℕ)
@@ -77,7 +75,7 @@ pub opened_listens : {I : Type 0} (view : I → IoView) (tells memory : Bool) (i
     → IsOpened view tells memory Listener old new h → HasListened view memory (view io) new h
 opened_listens view tells memory io old new h shows same stands opened =
     let given = opened.made in
-    let rest = tried tells memory h (view opened.mid.io) (view new.io) opened.user.taken opened.user.tries in
+    let rest = tried tells memory h opened.user.key (view opened.mid.io) (view new.io) opened.user.taken opened.user.tries in
     record {
       order =
           let first = given.later.faults in
@@ -89,15 +87,15 @@ opened_listens view tells memory io old new h shows same stands opened =
           let at : h ≡ 0 = given.number ∙ ap (λ i. (view i).made) same ∙ is_empty.made in
           single_listens view new h at
           (rest.2 (shows is) ∙ given.world (shows is) ∙ ap (λ i. (view i).world ++ fresh Listener ∷ []) same
-          ∙ ap (λ w. w ++ fresh Listener ∷ []) is_empty.world)
-          (rest.3 is ∙ ap (λ ks. with_key ks h (Some h)) (given.keys is ∙ ap (λ i. (view i).keys ++ None ∷ []) same
-          ∙ ap (λ ks. ks ++ None ∷ []) is_empty.keys) ∙ ap (λ n. with_key (None ∷ []) n (Some n)) at)
+          ∙ ap (λ w. w ++ fresh Listener ∷ []) is_empty.world) opened.user.key
+          (rest.3 is ∙ ap (λ ks. with_key ks h (Some opened.user.key)) (given.keys is ∙ ap (λ i. (view i).keys ++ None ∷ []) same
+          ∙ ap (λ ks. ks ++ None ∷ []) is_empty.keys) ∙ ap (λ n. with_key (None ∷ []) n (Some opened.user.key)) at)
           (rest.1 ∙ given.made ∙ ap (λ i. suc ((view i).made)) same ∙ ap suc is_empty.made)
           (λ k other known.
           let before : is_known old.table k ≡ true =
           sym (ap is_some (ap (λ m. map.get m k) (opened.user.table ∙ ap (λ m. map.insert m h by_user) opened.holders)
           ∙ put-other old.table.holders h by_user k other)) ∙ known in
-          no_keys k (Some k) (sym (ap (λ ks. slice_get ks k) (ap (λ i. (view i).keys) same ∙ is_empty.keys))
+          no_keys k (sym (ap (λ ks. is_keyed ks k) (ap (λ i. (view i).keys) same ∙ is_empty.keys))
           ∙ stands is_empty.world is_empty.keys k before));
     }
 

@@ -11,7 +11,7 @@ use Rattle.machine.specs.declared.ledger.Reply.{Reply}
 use Rattle.machine.specs.Ledger.{Ledger}
 use Rattle.run_laws.proofs.Replies.{length-replies, reply-at}
 use Rattle.ready_driver.specs.Spelled.{spelled_replies, spelled_after, ledger_behind}
-use Rattle.ready_run.specs.declared.session.ReadySession.{ReadySession}
+use Rattle.ready_run.specs.declared.inner.Inner.{Inner as ReadySession}
 use Rattle.ready_run.specs.ReadySession.{ReadyStands, ReadySteps}
 use Rattle.session_core.specs.declared.session.Session.{Session}
 use Rattle.session_core.specs.DriverKind.{AnswersOn, DriverKind, completion, readiness}

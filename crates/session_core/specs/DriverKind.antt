@@ -8,7 +8,7 @@ use Rattle.machine.specs.Run.{after, replies}
 use Rattle.ready_driver.specs.Readiness.{IsDriven}
 use Rattle.ready_driver.specs.Spelled.{spelled, spelled_reply, spelled_replies, spelled_after, ledger_behind}
 use Rattle.ready_run.specs.ReadySession.{ReadyStands}
-use Rattle.ready_run.specs.declared.session.ReadySession.{ReadySession}
+use Rattle.ready_run.specs.declared.inner.Inner.{Inner as ReadySession}
 use Rattle.event_text.specs.TextEvent.{stands_for}
 use Rattle.session_core.specs.declared.session.Session.{Session}
 use Rattle.session_core.specs.declared.top.Kept.{Kept}

@@ -30,6 +30,7 @@ use std::net::Net;
 use wake_core::Bell;
 
 mod counts;
+mod names;
 mod poller;
 mod probe;
 mod socket;
@@ -316,7 +317,7 @@ impl<R: Net + Drop> NonBlock for MioIo<R> {
 
     /// The count 0, and `INVALID` where the handle isn't open. How the system closed it isn't told.
     fn close(&mut self, h: u64) -> Outcome
-        ensures closes { IsClosed false false (host_view self.old) (host_view self.new) result }
+        ensures closes { IsClosed false false h (host_view self.old) (host_view self.new) result }
         ensures counted { IsCounted self.old.counts self.new.counts (CallAnswer.Done result) }
         ensures outcome { result ≡ closed_as (finite.get self.old.kinds h) }
         ensures kinds { self.new.kinds ≡ finite.remove self.old.kinds h }

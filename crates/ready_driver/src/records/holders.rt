@@ -1,11 +1,11 @@
 // Who holds the handles of records, beside what is kept of each.
-ghost use Rattle.std.specs.Prelude.{◌≡◌, ◌<◌, ◌+◌, ◌↔◌, IsTrue};
+ghost use Rattle.std.specs.Prelude.{◌≡◌, ◌<◌, ◌+◌, ◌↔◌, IsTrue, option_copied, option_map};
 ghost use Rattle.std.specs.FinMap as map;
 ghost use Rattle.handle_core.specs.Table.{IsHeld, holders_at, with_holders, nobody};
 ghost use Rattle.handle_core.specs.Table.{with_user, without_user, with_operation, without_operation};
-ghost use Rattle.ready_driver.specs.Records.{without_one};
+ghost use Rattle.ready_driver.specs.Records.{record_at, without_one};
 
-use crate::records::Records;
+use crate::records::{One, Records, key_in};
 use handle_core::{Holders, MAX_HOLDS, Released};
 
 // Somebody holds a handle of these holders.
@@ -16,11 +16,22 @@ fn is_held(held: &Holders) -> bool
 }
 
 impl Records {
+    // A handle that somebody holds.
+    pub(super) fn find(&self, h: u64) -> Option<&One>
+        ensures held { option_map (λ one. one.held) (option_copied result) ≡ map.get self.now.table.holders h }
+        ensures kept { option_map (λ one. one.kept) (option_copied result) ≡ record_at self.now.records h }
+    {
+        match key_in(&self.keys, &self.slab, self.last, h) {
+            Some(key) => self.slab.get(key),
+            None => None,
+        }
+    }
+
     /// Who holds a handle, and None exactly if nobody does. (not in monoio)
     pub fn holders(&self, h: u64) -> Option<Holders>
         ensures { result ≡ map.get self.now.table.holders h }
     {
-        match self.handles.get(&h) {
+        match self.find(h) {
             Some(one) => Some(one.held),
             None => None,
         }
@@ -33,7 +44,10 @@ impl Records {
         requires counter { (holders_at self.old.table h).user < MAX_HOLDS }
         ensures { self.new ≡ record self.old { table = with_holders self.old.table h (with_user (holders_at self.old.table h)) } }
     {
-        let Some(one) = self.handles.get_mut(&h) else {
+        let Some(key) = key_in(&self.keys, &self.slab, self.last, h) else {
+            unreachable!();
+        };
+        let Some(one) = self.slab.get_mut(key) else {
             unreachable!();
         };
         one.held.user += 1;
@@ -46,7 +60,11 @@ impl Records {
         requires counter { (holders_at self.old.table h).operations < MAX_HOLDS }
         ensures { self.new ≡ record self.old { table = with_holders self.old.table h (with_operation (holders_at self.old.table h)) } }
     {
-        let Some(one) = self.handles.get_mut(&h) else {
+        let Some(key) = key_in(&self.keys, &self.slab, self.last, h) else {
+            unreachable!();
+        };
+        self.last = key;
+        let Some(one) = self.slab.get_mut(key) else {
             unreachable!();
         };
         one.held.operations += 1;
@@ -61,14 +79,18 @@ impl Records {
         ensures stays { result ≡ Released.Held →
             self.new ≡ record self.old { table = with_holders self.old.table h (without_user (holders_at self.old.table h)) } }
     {
-        let Some(one) = self.handles.get_mut(&h) else {
+        let Some(key) = key_in(&self.keys, &self.slab, self.last, h) else {
+            unreachable!();
+        };
+        let Some(one) = self.slab.get_mut(key) else {
             unreachable!();
         };
         one.held.user -= 1;
         if is_held(&one.held) {
             return Released::Held;
         }
-        self.handles.remove(&h);
+        self.keys.remove(&h);
+        let _ = self.slab.try_remove(key);
         Released::Last
     }
 
@@ -81,14 +103,18 @@ impl Records {
         ensures stays { result ≡ Released.Held →
             self.new ≡ record self.old { table = with_holders self.old.table h (without_operation (holders_at self.old.table h)) } }
     {
-        let Some(one) = self.handles.get_mut(&h) else {
+        let Some(key) = key_in(&self.keys, &self.slab, self.last, h) else {
+            unreachable!();
+        };
+        let Some(one) = self.slab.get_mut(key) else {
             unreachable!();
         };
         one.held.operations -= 1;
         if is_held(&one.held) {
             return Released::Held;
         }
-        self.handles.remove(&h);
+        self.keys.remove(&h);
+        let _ = self.slab.try_remove(key);
         Released::Last
     }
 }

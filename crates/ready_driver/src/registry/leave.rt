@@ -60,11 +60,10 @@ impl<I: NonBlock> Registry<I> {
     }
 }
 
-// A handle isn't registered any more, and is closed once. What the object answers is passed over.
+// A handle is closed once, and isn't registered any more. What the object answers is passed over.
 fn close<I: NonBlock>(io: &mut I, h: u64)
     ensures { IsStill I.tells I.memory (I.view io.old) (I.view io.new) (without_keys (I.view io.old).keys (h ∷ []))
         (closes_after (I.view io.old).closes (h ∷ [])) }
 {
-    let _ = io.deregister(h);
     let _ = io.close(h);
 }

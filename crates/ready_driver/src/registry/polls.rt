@@ -17,6 +17,7 @@ ghost use Rattle.ready_driver.specs.Awaits.{slot_awaits, unless, IsSlotUnmet, Is
 ghost use Rattle.ready_driver.specs.Awaits.{LeavesFor, KeysFor, TokensFor, without_waiter};
 
 use crate::non_block::NonBlock;
+use crate::ready::Direction;
 use crate::registry::Registry;
 use crate::waits;
 use driver_core::{Op, Operations, PollOp};
@@ -31,8 +32,10 @@ impl<I: NonBlock> Registry<I> {
         ops: &mut Operations<B>,
         op: Op,
         task: u64,
+        awaited: Option<(u64, Direction)>,
     ) -> Result<PollOp<B>, (OutOfMemory, Op)>
-        requires { Holds ops.old op }
+        requires holds { Holds ops.old op }
+        requires awaited { awaited ≡ slot_awaits (map.get ops.old.slots.values (key_of op)) }
         ensures polls { IsTrue I.memory → (D : Legacy) → PartsStand B.buffer ops.old (I.view self.old.io).world D →
             PollsUnless (IsWorldUnmet self.old.records (I.view self.old.io).world (map.get ops.old.slots.values (key_of op)))
             B.buffer D op ops.new (I.view self.new.io).world result }
@@ -57,7 +60,7 @@ impl<I: NonBlock> Registry<I> {
         ensures tokens { TokensFor ops.old ops.new op result }
         ensures given { ops.new.given ≡ ops.old.given }
     {
-        waits::poll_op(ops, &mut self.io, &mut self.records, op, task)
+        waits::poll_op(ops, &mut self.io, &mut self.records, op, task, awaited)
     }
 
     /// An operation waits for a handle no longer: answers the task that waited, or None exactly if it didn't wait. (not in monoio)

@@ -2,7 +2,7 @@
 ghost use Rattle.std.specs.Prelude.{◌≡◌, ◌++◌, ◌+◌, ◌≤◌, ◌^◌, [], length, IsOk, IsTrue, OnOk, OnErr, IfSome, IfNone};
 ghost use Rattle.std.specs.Vec.{vec_len, vec_capacity};
 ghost use Rattle.ready_driver.specs.Io.{WaitsFor};
-ghost use Rattle.ready_driver.specs.Records.{io_at};
+ghost use Rattle.ready_driver.specs.Records.{io_named};
 ghost use Rattle.ready_driver.specs.Turns.{reported, reported_each, woken_by, woken_each, waiting_on, AreShown};
 
 use crate::non_block::{NonBlock, NonBlockError, Report, Reports};
@@ -31,7 +31,7 @@ impl<I: NonBlock> Registry<I> {
     }
 
     /// Treats reports, in order: the bits of each are added to those of the handle of its key, and the tasks that wait in a direction that
-    /// they meet join `woken`, and wait no longer. A report whose key is no held handle's number is passed over. The memory for the tasks
+    /// they meet join `woken`, and wait no longer. A report whose key no held handle has is passed over. The memory for the tasks
     /// is taken first; if that runs out, nothing changes. It looks at the handles alone that are reported. (monoio: `dispatch`, of the
     /// legacy driver)
     pub fn report(&mut self, reports: &Reports, woken: &mut Vec<u64>) -> Result<(), OutOfMemory>
@@ -43,6 +43,7 @@ impl<I: NonBlock> Registry<I> {
         ensures there { vec_len woken.old + waiting_on self.old.records reports.now ≤ vec_capacity woken.old → IsOk result }
         ensures err { OnErr result ((woken.new.items ≡ woken.old.items) × (self.new ≡ self.old)) }
     {
+        self.records.named();
         let Some(most) = count_waiting(&self.records, reports) else {
             return Err(OutOfMemory);
         };
@@ -63,7 +64,7 @@ fn count_waiting(records: &Records, reports: &Reports) -> Option<usize>
         let Some(report) = reports.get(at) else {
             unreachable!();
         };
-        count = count.checked_add(records.waiting(report.key as u64))?;
+        count = count.checked_add(records.waiting(report.key))?;
     }
     Some(count)
 }
@@ -84,11 +85,11 @@ fn treat(records: &mut Records, reports: &Reports, woken: &mut Vec<u64>)
 
 // Treats a report, in memory that was reserved for the tasks that it wakes.
 fn treat_one(records: &mut Records, report: Report, woken: &mut Vec<u64>)
-    requires { vec_len woken.old + length (io_at records.old.records report.key).waiting ≤ vec_capacity woken.old }
+    requires { vec_len woken.old + length (io_named records.old.records report.key).waiting ≤ vec_capacity woken.old }
     ensures records { records.new ≡ record records.old { records = reported records.old.records report } }
     ensures tasks { woken.new.items ≡ woken.old.items ++ woken_by records.old.records report }
     ensures len { vec_len woken.new ≡ vec_len woken.old + length (woken_by records.old.records report) }
     ensures capacity { vec_capacity woken.old ≤ vec_capacity woken.new }
 {
-    records.report_into(report.key as u64, report.ready, woken);
+    records.report_into(report.key, report.ready, woken);
 }

@@ -6,6 +6,7 @@ ghost use Rattle.std.specs.FinMap as finite;
 ghost use Rattle.machine.specs.declared.world.HandleKind.TheVariants.{Stream};
 ghost use Rattle.socket_io.specs.SocketTable.{IsRoomy, kind_of, is_listener, is_stream, RefusesUnfit};
 
+use crate::mio_io::names::Names;
 use crate::mio_io::probe::Probe;
 use crate::mio_io::socket::{Refusal, Socket};
 use machine::{INVALID, MOST_HANDLES};
@@ -23,6 +24,8 @@ use std::net::Net;
 pub struct Table {
     open: HashMap<u64, Socket>,
     made: u64,
+    // By key, the handle whose reports have it. No contract sees them: they only save reads that would block.
+    names: Names,
 }
 
 impl Model for Table {
@@ -46,6 +49,7 @@ impl Table {
         Table {
             open: HashMap::new(alloc),
             made: 0,
+            names: Names::new(alloc),
         }
     }
 
@@ -121,16 +125,40 @@ impl Table {
         socket.read(room)
     }
 
-    // Notes a report with a key: that of the handle of this number, where it has one.
+    // Notes a report with a key: that of its handle, where it is listed.
     fn note_one(&mut self, report: &Report)
         ensures made { self.new.made ≡ self.old.made }
         ensures open { self.new.kinds ≡ self.old.kinds }
     {
-        let h = report.key as u64;
+        let Some(h) = self.names.get(report.key) else {
+            return;
+        };
         let Some(socket) = self.open.get_mut(&h) else {
             return;
         };
         socket.note(report.ready);
+    }
+
+    // No report tells any more of another handle that has this key.
+    fn forget_other(&mut self, key: usize, h: u64)
+        ensures made { self.new.made ≡ self.old.made }
+        ensures open { self.new.kinds ≡ self.old.kinds }
+    {
+        match self.names.get(key) {
+            Some(other) if other != h => self.set_told(other, false),
+            _ => {}
+        }
+    }
+
+    // From now on reports tell when something comes at the stream of a handle, or none does.
+    fn set_told(&mut self, h: u64, told: bool)
+        ensures made { self.new.made ≡ self.old.made }
+        ensures open { self.new.kinds ≡ self.old.kinds }
+    {
+        let Some(socket) = self.open.get_mut(&h) else {
+            return;
+        };
+        socket.set_told(told);
     }
 
     /// Notes reports that came. (not in monoio)
@@ -174,7 +202,7 @@ impl Table {
     }
 
     /// Registers the socket of a handle with a key, in place of the one that it had, if it had one. One that isn't open is a fault. Where
-    /// the key is its handle's number, reports tell when something comes at it. (monoio: `Registry::register`)
+    /// the key is listed for the handle, reports tell when something comes at it. (monoio: `Registry::register`)
     pub fn register(&mut self, h: u64, registry: &Registry, key: usize) -> Result<(), NonBlockError>
         ensures made { self.new.made ≡ self.old.made }
         ensures open { self.new.kinds ≡ self.old.kinds }
@@ -184,7 +212,9 @@ impl Table {
             return Err(NonBlockError::Fault(INVALID));
         };
         socket.register(registry, key)?;
-        socket.set_told(key as u64 == h);
+        self.forget_other(key, h);
+        let told = self.names.set(key, h);
+        self.set_told(h, told);
         Ok(())
     }
 

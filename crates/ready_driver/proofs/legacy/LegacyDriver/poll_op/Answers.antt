@@ -58,8 +58,9 @@ invariant_of-self-in-Ok-Pending g c =
     let kept = naming-kept c.poll_op.new.self.table d.slots.values c.poll_op.new.ops.slots.values d.given c.args.op.key polled slots in (
       subst (λ n. AreNaming c.poll_op.new.self.table c.poll_op.new.ops.slots.values n) (sym c.poll_op.ensures.given) kept,
       in-slots-tokens d.members c.self.inside.ops c.poll_op.new.ops tokens.1 c.self.invariant.1,
-      λ memory. shown-polled g.I.NonBlock.view d.untreated c.reserve.new.registry c.poll_op.new.self c.poll_op.ensures.table
-          (c.poll_op.ensures.shown memory)
+      λ memory. shown-polled g.I.NonBlock.view d.untreated c.reserve.new.registry c.poll_op.new.self _ c.args.op.number c.args.task
+          c.poll_op.result c.poll_op.ensures.table c.poll_op.ensures.leaves
+          (c.poll_op.ensures.keys memory (c.self.invariant.0.unmade c.args.op.key)) (c.poll_op.ensures.shown memory)
           (shown-room g.I.NonBlock.view d.untreated d.handling c.reserve.new.registry c.reserve.ensures.same (c.self.invariant.2 memory)),
     )
 
@@ -74,8 +75,9 @@ invariant_of-self-in-Err-poll_op g c =
     c.in-Err-poll_op.ensures.slots in (
       subst (λ n. AreNaming c.poll_op.new.self.table c.poll_op.new.ops.slots.values n) (sym c.poll_op.ensures.given) kept,
       in-slots-tokens d.members c.self.inside.ops c.poll_op.new.ops c.in-Err-poll_op.ensures.tokens.1 c.self.invariant.1,
-      λ memory. shown-polled g.I.NonBlock.view d.untreated c.reserve.new.registry c.poll_op.new.self c.poll_op.ensures.table
-          (c.poll_op.ensures.shown memory)
+      λ memory. shown-polled g.I.NonBlock.view d.untreated c.reserve.new.registry c.poll_op.new.self _ c.args.op.number c.args.task
+          c.poll_op.result c.poll_op.ensures.table c.poll_op.ensures.leaves
+          (c.poll_op.ensures.keys memory (c.self.invariant.0.unmade c.args.op.key)) (c.poll_op.ensures.shown memory)
           (shown-room g.I.NonBlock.view d.untreated d.handling c.reserve.new.registry c.reserve.ensures.same (c.self.invariant.2 memory)),
     )
 
@@ -88,7 +90,7 @@ let_go-requires g c =
     let polled = subst (λ t. AreNaming t d.slots.values d.given) (sym c.poll_op.ensures.table) room in
     let handed = naming-handed g.I.NonBlock.view g.I.NonBlock.tells g.I.NonBlock.memory c.poll_op.new.self c.hand_over-done.new.registry
     (made_by c.hand_over-done.result.outcome) d.slots.values d.given c.hand_over-done.ensures.hands polled in
-    subst (CanLeave c.hand_over-done.new.registry.table) (sym c.names_at-names.ensures)
+    subst (CanLeave c.hand_over-done.new.registry.table) (sym (c.look_at-look.ensures.names ∙ ap named_in c.peek.ensures))
     (naming-leave c.hand_over-done.new.registry.table d.slots.values d.given c.key-key.result handed)
 
 pub invariant_of-self-in-Ok-Ready : goal.invariant_of-self-in-Ok-Ready
@@ -109,8 +111,8 @@ invariant_of-self-in-Ok-Ready g c =
     returns.others
     returns.free in
     let table = c.let_go.ensures.holders ∙ ap (without_ops c.hand_over-done.new.registry.table)
-    (c.names_at-names.ensures ∙ ap (λ k. named_in (get d.slots.values k)) c.key-key.ensures) in
-    let may = subst (CanLeave c.hand_over-done.new.registry.table) (sym c.names_at-names.ensures)
+    ((c.look_at-look.ensures.names ∙ ap named_in c.peek.ensures) ∙ ap (λ k. named_in (get d.slots.values k)) c.key-key.ensures) in
+    let may = subst (CanLeave c.hand_over-done.new.registry.table) (sym (c.look_at-look.ensures.names ∙ ap named_in c.peek.ensures))
     (naming-leave c.hand_over-done.new.registry.table d.slots.values d.given c.key-key.result handed) in (
       subst (λ t. AreNaming t c.poll_op.new.ops.slots.values c.poll_op.new.ops.given) (sym table)
           (subst (λ n. AreNaming (without_ops c.hand_over-done.new.registry.table (named_in (get d.slots.values key)))
@@ -119,11 +121,12 @@ invariant_of-self-in-Ok-Ready g c =
           (sym (c.leave.ensures.left ∙ ap (leaves d.members) c.number-number.ensures))
           (in-slots-left d.members c.self.inside.ops c.poll_op.new.ops c.args.op tokens c.self.invariant.1),
       λ memory. shown-left g.I.NonBlock.view d.untreated g.I.NonBlock.tells g.I.NonBlock.memory memory c.hand_over-done.new.registry
-          c.let_go.new.self (listed c.names_at-names.result) may c.let_go.ensures
+          c.let_go.new.self (listed c.look_at-look.result.names) may c.let_go.ensures
           (shown-handed g.I.NonBlock.view d.untreated g.I.NonBlock.tells g.I.NonBlock.memory memory c.poll_op.new.self
           c.hand_over-done.new.registry (made_by c.hand_over-done.result.outcome) c.hand_over-done.ensures.hands
-          (shown-polled g.I.NonBlock.view d.untreated c.reserve.new.registry c.poll_op.new.self c.poll_op.ensures.table
-          (c.poll_op.ensures.shown memory)
+          (shown-polled g.I.NonBlock.view d.untreated c.reserve.new.registry c.poll_op.new.self _ c.args.op.number c.args.task
+          c.poll_op.result c.poll_op.ensures.table c.poll_op.ensures.leaves
+          (c.poll_op.ensures.keys memory (c.self.invariant.0.unmade c.args.op.key)) (c.poll_op.ensures.shown memory)
           (shown-room g.I.NonBlock.view d.untreated d.handling c.reserve.new.registry c.reserve.ensures.same (c.self.invariant.2 memory)))),
     )
 
@@ -234,9 +237,9 @@ returns-in-Ok-Ready-clause-answers g c =
     (c.in-Ok-Ready.ensures.keys memory (c.self.invariant.0.unmade op.key)) in
     stands-ended view buffer d D stands op.key op.number holds g.I.NonBlock.tells g.I.NonBlock.memory c.args.task memory
     (g.met.I.NonBlock.memory_tells memory) few room c.poll_op.new.self c.hand_over-done.new.registry new
-    done c.hand_over-done.result (listed c.names_at-names.result) c.reserve.ensures.same c.poll_op.ensures.table
+    done c.hand_over-done.result (listed c.look_at-look.result.names) c.reserve.ensures.same c.poll_op.ensures.table
     keys polls slots c.hand_over-done.ensures.outcome c.hand_over-done.ensures.request c.hand_over-done.ensures.hands
-    (c.names_at-names.ensures ∙ ap (λ k. named_in (get d.slots.values k)) c.key-key.ensures) c.let_go.ensures c.leave.ensures.placed
+    ((c.look_at-look.ensures.names ∙ ap named_in c.peek.ensures) ∙ ap (λ k. named_in (get d.slots.values k)) c.key-key.ensures) c.let_go.ensures c.leave.ensures.placed
     (c.leave.ensures.left ∙ ap (leaves d.members) c.number-number.ensures))
 
 pub returns-in-Err-clause-ends : goal.returns-in-Err-clause-ends
@@ -253,7 +256,7 @@ returns-in-Err-clause-ends g c =
         leaves = leaves-refused _ _ c.reserve.new.registry.records c.args.op.number c.args.task _;
         unreserved = λ none. (
             let same = c.reserve.ensures.unreserved
-            (c.is_maker.ensures ∙ ap (λ k. is_maker (get d.slots.values k)) c.key-key.ensures ∙ none) in
+            (c.look_at-look.ensures.maker ∙ ap is_maker c.peek.ensures ∙ ap (λ k. is_maker (get d.slots.values k)) c.key-key.ensures ∙ none) in
             (ap (λ (x : Handling g.row.I.Denot). x.table) same, ap (λ (x : Handling g.row.I.Denot). x.records) same));
       },
       refl,
@@ -279,7 +282,7 @@ returns-in-Ok-Pending-clause-ends g c =
             c.poll_op.new.self.records (Ok x)) c.in-Ok-Pending.field-0-is c.in-Ok-Pending.ensures.leaves);
         unreserved = λ none. (
             let same = c.reserve.ensures.unreserved
-            (c.is_maker.ensures ∙ ap (λ k. is_maker (get d.slots.values k)) c.key-key.ensures ∙ none) in (
+            (c.look_at-look.ensures.maker ∙ ap is_maker c.peek.ensures ∙ ap (λ k. is_maker (get d.slots.values k)) c.key-key.ensures ∙ none) in (
               c.poll_op.ensures.table ∙ ap (λ (x : Handling g.row.I.Denot). x.table) same,
               ap (λ (x : Handling g.row.I.Denot). x.records) same,
             ));
@@ -305,7 +308,7 @@ returns-in-Err-poll_op-clause-ends g c =
             c.in-Err-poll_op.ensures.leaves;
         unreserved = λ none. (
             let same = c.reserve.ensures.unreserved
-            (c.is_maker.ensures ∙ ap (λ k. is_maker (get c.self.inside.ops.slots.values k)) c.key-key.ensures ∙ none) in (
+            (c.look_at-look.ensures.maker ∙ ap is_maker c.peek.ensures ∙ ap (λ k. is_maker (get c.self.inside.ops.slots.values k)) c.key-key.ensures ∙ none) in (
               c.poll_op.ensures.table ∙ ap (λ (x : Handling g.row.I.Denot). x.table) same,
               ap (λ (x : Handling g.row.I.Denot). x.records) same,
             ));
@@ -332,8 +335,8 @@ returns-in-Ok-Ready-clause-ends g c =
     let memory = g.I.NonBlock.memory in
     let returns : ReturnsSlot d.slots.values op.key c.poll_op.new.ops.slots.values done =
     subst (λ x. PollsSlotFor c.self.inside.ops c.poll_op.new.ops op (Ok x)) c.in-Ok-Ready.field-0-is c.in-Ok-Ready.ensures.slots in
-    let names : listed c.names_at-names.result ≡ named result.request =
-    c.names_at-names.ensures ∙ ap (λ k. named_in (get d.slots.values k)) c.key-key.ensures ∙ sym returns.names
+    let names : listed c.look_at-look.result.names ≡ named result.request =
+    (c.look_at-look.ensures.names ∙ ap named_in c.peek.ensures) ∙ ap (λ k. named_in (get d.slots.values k)) c.key-key.ensures ∙ sym returns.names
     ∙ ap named (sym c.hand_over-done.ensures.request) in
     let leaves : LeavesFor (unless (g.I.NonBlock.files d.handling.io) (slot_awaits slot)) room.records op.number c.args.task
     c.poll_op.new.self.records (Ok (Ready done)) =
@@ -361,7 +364,7 @@ returns-in-Ok-Ready-clause-ends g c =
             (sym c.hand_over-done.ensures.request) leaves;
         unreserved = λ none. (
             let same = c.reserve.ensures.unreserved
-            (c.is_maker.ensures ∙ ap (λ k. is_maker (get d.slots.values k)) c.key-key.ensures ∙ none) in (
+            (c.look_at-look.ensures.maker ∙ ap is_maker c.peek.ensures ∙ ap (λ k. is_maker (get d.slots.values k)) c.key-key.ensures ∙ none) in (
               c.poll_op.ensures.table ∙ ap (λ (x : Handling g.row.I.Denot). x.table) same,
               ap (λ (x : Handling g.row.I.Denot). x.records) same,
             ));
@@ -380,7 +383,7 @@ returns-in-Ok-Pending-clause-others g c =
     by_parts c.poll_op.new.self c.poll_op.new.ops c.self.inside.members c.self.inside.asked.items c.self.inside.untreated in
     polls-keep g.I.NonBlock.files g.B.IoBufMut.buffer g.I.Calls.called g.I.NonBlock.view g.I.NonBlock.tells g.I.NonBlock.memory
     c.args.self.now new c.args.op c.args.task (Ok (Pending c.in-Ok-Pending.op)) (returns-in-Ok-Pending-clause-ends g c)
-    (subst (λ d. AreRecorded d.handling.table d.handling.records) c.self.view_is c.recorded.ensures) tt
+    (subst (λ d. AreRecorded d.handling.table d.handling.records) c.self.view_is c.recorded.ensures.recorded) tt
 
 pub returns-in-Err-poll_op-clause-others : goal.returns-in-Err-poll_op-clause-others
 returns-in-Err-poll_op-clause-others g c =
@@ -388,7 +391,7 @@ returns-in-Err-poll_op-clause-others g c =
     by_parts c.poll_op.new.self c.poll_op.new.ops c.self.inside.members c.self.inside.asked.items c.self.inside.untreated in
     polls-keep g.I.NonBlock.files g.B.IoBufMut.buffer g.I.Calls.called g.I.NonBlock.view g.I.NonBlock.tells g.I.NonBlock.memory
     c.args.self.now new c.args.op c.args.task (Err c.in-Err-poll_op.refused) (returns-in-Err-poll_op-clause-ends g c)
-    (subst (λ d. AreRecorded d.handling.table d.handling.records) c.self.view_is c.recorded.ensures) tt
+    (subst (λ d. AreRecorded d.handling.table d.handling.records) c.self.view_is c.recorded.ensures.recorded) tt
 
 pub returns-in-Ok-Ready-clause-others : goal.returns-in-Ok-Ready-clause-others
 returns-in-Ok-Ready-clause-others g c =
@@ -396,7 +399,8 @@ returns-in-Ok-Ready-clause-others g c =
     by_parts c.let_go.new.self c.poll_op.new.ops c.leave.new.self c.self.inside.asked.items c.self.inside.untreated in
     polls-keep g.I.NonBlock.files g.B.IoBufMut.buffer g.I.Calls.called g.I.NonBlock.view g.I.NonBlock.tells g.I.NonBlock.memory
     c.args.self.now new c.args.op c.args.task (Ok (Ready c.hand_over-done.result)) (returns-in-Ok-Ready-clause-ends g c)
-    (subst (λ d. AreRecorded d.handling.table d.handling.records) c.self.view_is c.recorded.ensures) c.recorded-in-Ok-Ready.ensures
+    (subst (λ d. AreRecorded d.handling.table d.handling.records) c.self.view_is c.recorded.ensures.recorded)
+    c.recorded-in-Ok-Ready.ensures.recorded
 
 pub returns-in-Ok-Ready-clause-fails : goal.returns-in-Ok-Ready-clause-fails
 returns-in-Ok-Ready-clause-fails g c =
@@ -422,6 +426,6 @@ hand_over-done-requires g c =
     let returns : ReturnsSlot slots key c.poll_op.new.ops.slots.values c.in-Ok-Ready.done =
     subst (λ x. PollsSlotFor c.self.inside.ops c.poll_op.new.ops c.args.op (Ok x)) c.in-Ok-Ready.field-0-is c.in-Ok-Ready.ensures.slots in
     made-room (made_by c.in-Ok-Ready.done.outcome) (is_maker (get slots key)) c.reserve.new.registry c.poll_op.new.self
-    (λ maker. c.in-Ok.ensures.ok (c.is_maker.ensures ∙ ap (λ k. is_maker (get slots k)) c.key-key.ensures ∙ maker))
+    (λ maker. c.in-Ok.ensures.ok (c.look_at-look.ensures.maker ∙ ap is_maker c.peek.ensures ∙ ap (λ k. is_maker (get slots k)) c.key-key.ensures ∙ maker))
     (returns.made (c.self.invariant.0.unmade key)) c.poll_op.ensures.table
     (leaves-spare _ c.reserve.new.registry.records _ _ c.poll_op.new.self.records _ c.in-Ok-Ready.ensures.leaves)

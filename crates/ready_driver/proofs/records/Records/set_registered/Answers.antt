@@ -1,14 +1,18 @@
-use Rattle.std.proofs.Common.{true, refl, ◌∙◌, ap}
-use Rattle.ready_driver.specs.Records.{with_registered, holdings_of}
-use Rattle.ready_driver.proofs.Kept.{written-record, unchanged-record}
+use Rattle.std.proofs.Common.{true, refl, ◌∙◌}
+use Rattle.ready_driver.specs.Records.{with_registered}
+use Rattle.ready_driver.proofs.Kept.{key-found, unchanged-named, written-named, written-paired}
 use Rattle.ready_driver.proofs.records.Records.set_registered.Goals as goal
 
-pub returns : goal.returns
-returns c =
-    written-record c.self.inside.handles _ _ c.self.view_is _ c.args.h c.in-Some.one.now _ (with_registered true)
-    c.in-Some.ensures.value refl
-    (c.get_mut.follows.holds _)
-
 pub returns-in_default : goal.returns-in_default
-returns-in_default c = ap (λ m. holdings_of m.entries c.self.inside.reserved) c.get_mut.follows.holds-at-none ∙ c.self.view_is
-    ∙ unchanged-record c.self.inside.handles _ _ c.self.view_is c.args.h (with_registered true) c.in_default.ensures.value
+returns-in_default c = c.self.view_is
+    ∙ unchanged-named c.self.inside.keys c.self.inside.slab _ c.self.invariant _ c.self.view_is c.args.key (with_registered true)
+    c.in_default.ensures.value
+
+pub invariant_of-self-2 : goal.invariant_of-self-2
+invariant_of-self-2 c = written-paired c.self.inside.keys c.self.inside.slab _ c.self.invariant _ c.self.view_is _ c.args.key _ _
+    (key-found c.self.inside.keys c.self.inside.slab _ c.self.invariant _ c.self.view_is c.args.key _ c.in-Some.ensures.value)
+    c.in-Some.ensures.value refl refl
+
+pub returns : goal.returns
+returns c = written-named c.self.inside.keys c.self.inside.slab _ c.self.invariant _ c.self.view_is c.args.key _ _ (with_registered true)
+    c.in-Some.ensures.value refl

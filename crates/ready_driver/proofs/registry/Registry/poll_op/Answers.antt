@@ -26,4 +26,4 @@ returns-clause-exact g c = λ memory reported D handles parts.
     exact-unless (IsWorldUnmet old.records (view old.io).world slot) buffer D c.args.op c.poll_op.new.ops (view c.poll_op.new.io).world
     c.poll_op.result
     (unmet-waits buffer old.table old.records (view old.io).world (view old.io).keys D ops reported handles parts c.args.op.key
-    c.args.op.number c.requires) polls
+    c.args.op.number c.requires.holds) polls

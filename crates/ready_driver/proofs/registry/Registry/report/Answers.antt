@@ -16,4 +16,5 @@ returns-clause-shown g c =
     record { io = c.self.inside.io; table = c.self.inside.records.table; records = c.self.inside.records.records } in
     let new : Handling g.row.I.Denot = record old { table = c.treat.new.records.table; records = c.treat.new.records.records } in
     rw (← c.self.view_is) (λ memory shown. shown-treated g.I.NonBlock.view old new c.args.reports.now c.self.invariant
+    c.named.ensures
     (ap (λ (a : Holdings). record old { table = a.table; records = a.records }) c.treat.ensures.records) shown)
