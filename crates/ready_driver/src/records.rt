@@ -22,6 +22,9 @@ use std::marker::Model;
 mod holders;
 mod polls;
 
+// How many keys are kept by the remainders of their handles.
+const NEAR: usize = 64;
+
 /// What a driver keeps of a handle. (monoio: a `ScheduledIo` in the slab of the legacy driver)
 #[derive(Debug, Drop)]
 pub struct Record {
@@ -52,8 +55,9 @@ pub struct Records {
     slab: Slab<One>,
     // For how many more handles memory is reserved.
     reserved: usize,
-    // The key that was found last: a call that names the same handle again finds it without a hash. No contract sees it.
-    last: usize,
+    // Keys that were found or given, each at the remainder of its handle: a call that names the handle again finds it without a hash. No
+    // contract sees them.
+    near: [usize; NEAR],
     alloc: Global,
 }
 
@@ -70,13 +74,26 @@ impl Model for Records {
     ghost invariant = { λ r. IsPaired r.keys r.slab r.reserved };
 }
 
-// The key of a handle: that which was found last, where the handle there is this one, and else by a hash.
-fn key_in(keys: &HashMap<u64, usize>, slab: &Slab<One>, last: usize, h: u64) -> Option<usize>
+// Where the key of a handle is kept.
+fn place(h: u64) -> usize
+    ensures { result < NEAR }
+{
+    (h % NEAR as u64) as usize
+}
+
+// The key of a handle: that which is kept for it, where the handle there is this one, and else by a hash.
+fn key_in(
+    keys: &HashMap<u64, usize>,
+    slab: &Slab<One>,
+    near: &[usize; NEAR],
+    h: u64,
+) -> Option<usize>
     requires { (key : ℕ) (one : One) → slot_at slab.now key ≡ Some one → get_by (nat_eq one.number) keys.now ≡ Some key }
     ensures value { result ≡ get_by (nat_eq h) keys.now }
 {
-    match slab.get(last) {
-        Some(one) if one.number == h => Some(last),
+    let key = near[place(h)];
+    match slab.get(key) {
+        Some(one) if one.number == h => Some(key),
         _ => keys.get(&h).copied(),
     }
 }
@@ -93,7 +110,7 @@ impl Records {
             keys: HashMap::new(alloc),
             slab: Slab::new(alloc),
             reserved: 0,
-            last: 0,
+            near: [0; NEAR],
             alloc,
         }
     }
@@ -146,6 +163,7 @@ impl Records {
         };
         self.slab.insert_reserved(one);
         let _ = self.keys.insert(h, key);
+        self.near[place(h)] = key;
         self.reserved -= 1;
         key
     }
@@ -214,7 +232,7 @@ impl Records {
               changed self.old.records h (with_io (λ io. record io { waiting = forgotten io.waiting serial }));
         } }
     {
-        let Some(key) = key_in(&self.keys, &self.slab, self.last, h) else {
+        let Some(key) = key_in(&self.keys, &self.slab, &self.near, h) else {
             return None;
         };
         let Some(one) = self.slab.get_mut(key) else {

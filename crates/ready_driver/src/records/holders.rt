@@ -5,7 +5,7 @@ ghost use Rattle.handle_core.specs.Table.{IsHeld, holders_at, with_holders, nobo
 ghost use Rattle.handle_core.specs.Table.{with_user, without_user, with_operation, without_operation};
 ghost use Rattle.ready_driver.specs.Records.{record_at, without_one};
 
-use crate::records::{One, Records, key_in};
+use crate::records::{One, Records, key_in, place};
 use handle_core::{Holders, MAX_HOLDS, Released};
 
 // Somebody holds a handle of these holders.
@@ -21,7 +21,7 @@ impl Records {
         ensures held { option_map (λ one. one.held) (option_copied result) ≡ map.get self.now.table.holders h }
         ensures kept { option_map (λ one. one.kept) (option_copied result) ≡ record_at self.now.records h }
     {
-        match key_in(&self.keys, &self.slab, self.last, h) {
+        match key_in(&self.keys, &self.slab, &self.near, h) {
             Some(key) => self.slab.get(key),
             None => None,
         }
@@ -44,7 +44,7 @@ impl Records {
         requires counter { (holders_at self.old.table h).user < MAX_HOLDS }
         ensures { self.new ≡ record self.old { table = with_holders self.old.table h (with_user (holders_at self.old.table h)) } }
     {
-        let Some(key) = key_in(&self.keys, &self.slab, self.last, h) else {
+        let Some(key) = key_in(&self.keys, &self.slab, &self.near, h) else {
             unreachable!();
         };
         let Some(one) = self.slab.get_mut(key) else {
@@ -60,10 +60,10 @@ impl Records {
         requires counter { (holders_at self.old.table h).operations < MAX_HOLDS }
         ensures { self.new ≡ record self.old { table = with_holders self.old.table h (with_operation (holders_at self.old.table h)) } }
     {
-        let Some(key) = key_in(&self.keys, &self.slab, self.last, h) else {
+        let Some(key) = key_in(&self.keys, &self.slab, &self.near, h) else {
             unreachable!();
         };
-        self.last = key;
+        self.near[place(h)] = key;
         let Some(one) = self.slab.get_mut(key) else {
             unreachable!();
         };
@@ -79,7 +79,7 @@ impl Records {
         ensures stays { result ≡ Released.Held →
             self.new ≡ record self.old { table = with_holders self.old.table h (without_user (holders_at self.old.table h)) } }
     {
-        let Some(key) = key_in(&self.keys, &self.slab, self.last, h) else {
+        let Some(key) = key_in(&self.keys, &self.slab, &self.near, h) else {
             unreachable!();
         };
         let Some(one) = self.slab.get_mut(key) else {
@@ -103,7 +103,7 @@ impl Records {
         ensures stays { result ≡ Released.Held →
             self.new ≡ record self.old { table = with_holders self.old.table h (without_operation (holders_at self.old.table h)) } }
     {
-        let Some(key) = key_in(&self.keys, &self.slab, self.last, h) else {
+        let Some(key) = key_in(&self.keys, &self.slab, &self.near, h) else {
             unreachable!();
         };
         let Some(one) = self.slab.get_mut(key) else {

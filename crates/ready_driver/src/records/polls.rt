@@ -17,7 +17,7 @@ ghost use Rattle.ready_driver.specs.Turns.{KeepsBits};
 
 use crate::non_block::NonBlock;
 use crate::ready::Direction;
-use crate::records::{Records, key_in};
+use crate::records::{Records, key_in, place};
 use driver_core::{Op, Operations, PollOp};
 use rent_buf::{IoBufMut, OutOfMemory};
 
@@ -51,10 +51,10 @@ impl Records {
         ensures tokens { TokensFor ops.old ops.new op result }
         ensures given { ops.new.given ≡ ops.old.given }
     {
-        let Some(key) = key_in(&self.keys, &self.slab, self.last, h) else {
+        let Some(key) = key_in(&self.keys, &self.slab, &self.near, h) else {
             return Ok(PollOp::Pending(op));
         };
-        self.last = key;
+        self.near[place(h)] = key;
         let Some(one) = self.slab.get_mut(key) else {
             unreachable!();
         };
